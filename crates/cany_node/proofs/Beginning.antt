@@ -15,6 +15,7 @@ use Rattle.cany_model.specs.Rules.Turn.{scenario_for}
 use Rattle.cany_model.proofs.Promises.OwnSlotsAlone.{from_later, members_later}
 use Rattle.cany_model.proofs.Rules.Begun.{AreIdle, IsBegun, begun_before}
 use Rattle.cany_model.proofs.Rules.MutedFacts.{turn_muted}
+use Rattle.cany_model.proofs.Rules.SendFacts.{sendable_late}
 use Rattle.cany_edcan.specs.Edcan.{IsEdcanOf}
 use Rattle.cany_edcan.proofs.EdcanFacts.{edcan_for}
 use Rattle.cany_relcan.proofs.FollowedFacts.{relcan_for}
@@ -26,7 +27,6 @@ use Rattle.cany_node.specs.Node.{AreReadable, IsNodeOf, IsWaiting, NodeParts}
 use Rattle.cany_node.specs.Membership.{MembershipParts}
 use Rattle.cany_node.proofs.AgendaFacts.{rising-earlier}
 use Rattle.cany_node.proofs.AskFacts.{passed_asks, whole_asks}
-use Rattle.cany_model.proofs.Rules.SendFacts.{sendable_late}
 use Rattle.cany_node.proofs.SendFacts.{none_for}
 use Rattle.cany_node.proofs.MembershipBeginning.{IsOutside, site_begins, site_opens}
 

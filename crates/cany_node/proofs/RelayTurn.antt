@@ -25,10 +25,10 @@ use Rattle.cany_node.specs.Apply.{AreApplied, CanApply}
 use Rattle.cany_node.specs.Node.{CanAct, IsNodeOf, NodeParts}
 use Rattle.cany_node.specs.Resting.{IsIdleUntil, is_for_edcan, is_for_relays, is_of_relays}
 use Rattle.cany_node.specs.Turning.{HasScripted, plain_effects}
-use Rattle.cany_node.proofs.Classes.{of_three}
 use Rattle.cany_node.proofs.ActSteps.{AlwaysListed, listed_apply}
-use Rattle.cany_node.proofs.FrameTurn.{after_none, later_none, none_asked_for, scripted_with}
 use Rattle.cany_node.proofs.AppliedParts.{can_back}
+use Rattle.cany_node.proofs.Classes.{of_three}
+use Rattle.cany_node.proofs.FrameTurn.{after_none, later_none, none_asked_for, scripted_with}
 use Rattle.cany_node.proofs.OwnNode.{edcan_now, relcan_now}
 use Rattle.cany_node.proofs.TellsNothingToRelays.{edcan_none, edcan_still}
 use Rattle.cany_node.proofs.Idle.IdleFacts.{others_in_turn}

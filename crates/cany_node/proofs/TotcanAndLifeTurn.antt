@@ -26,9 +26,9 @@ use Rattle.cany_node.specs.Membership.{IsMembershipOf, IsNextOf, MembershipParts
 use Rattle.cany_node.specs.Node.{IsNodeOf, NodeParts}
 use Rattle.cany_node.specs.Resting.{IsIdleUntil, MembershipRests, RelcanRestsUntil, brings_totcan_or_life, is_for_edcan, is_of_totcan_or_life}
 use Rattle.cany_node.specs.Turning.{HasScripted, plain_effects, script_effects}
-use Rattle.cany_node.proofs.Classes.{of_three}
 use Rattle.cany_node.proofs.ActSteps.{AlwaysListed}
 use Rattle.cany_node.proofs.BacklogWaits.{none_asked_next}
+use Rattle.cany_node.proofs.Classes.{of_three}
 use Rattle.cany_node.proofs.HeardTurn.{listed_more, same_room}
 use Rattle.cany_node.proofs.OwnNode.{edcan_now, relcan_now, totcan_now}
 use Rattle.cany_node.proofs.Idle.IdleFacts.{others_in_turn}
@@ -77,60 +77,56 @@ no_effects format (effect ∷ effects) is = absurd (cc)
 -- ---- the turn
 
 module _ (scenario : ScenarioParts) (past : List NoticeKind) (e : NoticeKind) (v : NodeParts) (stands : IsNodeOf scenario past v) (others : OthersRest scenario past v) where
-  abbrev i : ℕ
-  i = v.node
-
   abbrev read : List NoticeKind
   read = e ∷ past
 
   abbrev messages : List Message
-  messages = backlog scenario i past
+  messages = backlog scenario v.node past
 
   abbrev count : ℕ
-  count = asked scenario i past
+  count = asked scenario v.node past
 
   none_next : next_after scenario.params (e ∷ past) (backlog scenario v.node (e ∷ past)) (asked scenario v.node past) ≡ None
   none_next =
       ap (λ ms. next_after scenario.params read ms count) (same_backlog scenario past v stands others e)
-      ∙ none_asked_next scenario i past messages count v.totcan e stands.totcan (tot_rests scenario past v stands others).none
+      ∙ none_asked_next scenario v.node past messages count v.totcan e stands.totcan (tot_rests scenario past v stands others).none
 
-  no_next : backlog_effects scenario i read ≡ []
+  no_next : backlog_effects scenario v.node read ≡ []
   unfolding backlog_effects
   no_next = ap ask_for none_next
 
-  still_asked : asked_after scenario.params read (backlog scenario i read) count ≡ count
+  still_asked : asked_after scenario.params read (backlog scenario v.node read) count ≡ count
   still_asked = ap (one_more count) none_next
 
   alone : edcan_effects scenario v.node (e ∷ past) ≡ [] → relcan_effects scenario v.node (e ∷ past) ≡ []
       → plain_effects scenario v.node (e ∷ past) ≡ totcan_effects scenario v.node (e ∷ past) ++ membership_effects scenario v.node (e ∷ past)
   alone ed rel =
-      (λ j. (ed j ++ (rel j ++ (totcan_effects scenario i read ++ membership_effects scenario i read)))
-      ++ both_none (script_effects scenario i read) (backlog_effects scenario i read) (no_script scenario past v stands others e) no_next j)
-      ∙ append-nil (totcan_effects scenario i read ++ membership_effects scenario i read)
+      (λ j. (ed j ++ (rel j ++ (totcan_effects scenario v.node read ++ membership_effects scenario v.node read)))
+      ++ both_none (script_effects scenario v.node read) (backlog_effects scenario v.node read) (no_script scenario past v stands others e) no_next j)
+      ∙ append-nil (totcan_effects scenario v.node read ++ membership_effects scenario v.node read)
 
   module _ (t : TotcanParts) (tot : IsTotcanOf scenario v.totcan.node (e ∷ past) (backlog scenario v.node past) (asked scenario v.node past) t) where
     -- the backlog asks for nothing
     none_asked_for : IsTotcanOf scenario t.node (e ∷ past) (backlog scenario v.node (e ∷ past))
         (asked_after scenario.params (e ∷ past) (backlog scenario v.node (e ∷ past)) (asked scenario v.node past)) t
     none_asked_for =
-        subst (λ n. IsTotcanOf scenario t.node read (backlog scenario i read) n t) (sym still_asked)
+        subst (λ n. IsTotcanOf scenario t.node read (backlog scenario v.node read) n t) (sym still_asked)
         (subst (λ ms. IsTotcanOf scenario t.node read ms count t) (sym (same_backlog scenario past v stands others e))
         (subst (λ n. IsTotcanOf scenario n read messages count t) (sym tot.limits.node) tot))
 
     scripted_so : (membership : MembershipParts) → IsEdcanOf scenario v.node (e ∷ past) v.edcan → IsRelcanOf scenario v.node (e ∷ past) v.relcan
         → IsMembershipOf scenario v.node (e ∷ past) membership → HasScripted scenario past e (record v { totcan = t; membership = membership })
     scripted_so membership ed rel site =
-        let same = same_room scenario v.totcan.node v.totcan.node past read messages count count v.totcan t refl
-        (subst (λ n. IsTotcanOf scenario n past messages count v.totcan) (sym stands.totcan.limits.node) stands.totcan) tot in
+        let same = same_room scenario v.totcan.node v.totcan.node past read messages count count v.totcan t refl (totcan_now scenario past v stands) tot in
         record {
           edcan = ed;
           relcan = rel;
-          totcan = subst (λ ms. IsTotcanOf scenario i read ms count t) (sym (same_backlog scenario past v stands others e))
+          totcan = subst (λ ms. IsTotcanOf scenario v.node read ms count t) (sym (same_backlog scenario past v stands others e))
               (subst (λ n. IsTotcanOf scenario n read messages count t) stands.totcan.limits.node tot);
           membership = site;
-          agenda = agenda_later scenario i (length past) v.agenda stands.agenda others.sends;
-          joins = asks_later scenario i (length past) scenario.joins v.joins stands.joins others.joins;
-          leaves = asks_later scenario i (length past) scenario.leaves v.leaves stands.leaves others.leaves;
+          agenda = agenda_later scenario v.node (length past) v.agenda stands.agenda others.sends;
+          joins = asks_later scenario v.node (length past) scenario.joins v.joins stands.joins others.joins;
+          leaves = asks_later scenario v.node (length past) scenario.leaves v.leaves stands.leaves others.leaves;
           room_to_give = omega (arith, same.0, same.1, stands.room_to_give);
         }
 
