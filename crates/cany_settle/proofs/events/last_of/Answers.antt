@@ -7,6 +7,6 @@ pub loop-i-preserved : goal.loop-i-preserved
 loop-i-preserved g c =
     let slot = g.A.Scripted.slot in
     ap (λ n. greater n (greatest (map slot (drop (c.loop-i.i + 1) c.args.asks.now))))
-    (c.later-last.ensures ∙ ap (greater c.loop-i.last) (c.slot.ensures ∙ ap slot (sym c.index-asks-i.is)))
+    (c.later-last.ensures ∙ ap (greater c.loop-i.last) c.slot.ensures)
     ∙ greatest_next slot c.args.asks.now c.loop-i.i c.index-asks-i.result c.loop-i.last (omega arith) (sym c.index-asks-i.is)
     ∙ c.loop-i.invariant
