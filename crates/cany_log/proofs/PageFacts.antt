@@ -5,6 +5,10 @@ use Rattle.std.proofs.Math.Seq.{drop-cons, drop-length}
 use Rattle.std.proofs.lemmas.List.{take-append-drop, drop-append-le, length-take}
 use Rattle.std.proofs.lemmas.List.Concat.{flat_map-append}
 
+-- a page on which nothing else stood
+pub alone : (part page full : List ℕ) → full ≡ part ++ page → page ≡ [] → full ≡ part
+alone part page full put empty = put ∙ ap (λ r. part ++ r) empty ∙ append-nil part
+
 module _ {X : Type 0} (f : X → List ℕ) where
   -- what is written of the items from one place on is there, before what was there
   pub record HasPut (xs : List X) (i : ℕ) (after page : List ℕ) : Type 0 where
@@ -39,10 +43,6 @@ module _ {X : Type 0} (f : X → List ℕ) where
       ap (λ ys. flat_map f (drop i ys)) (sym (take-append-drop j xs))
       ∙ ap (flat_map f) (drop-append-le i (take j xs) (drop j xs) inside)
       ∙ flat_map-append f (drop i (take j xs)) (drop j xs)
-
-  -- a page on which nothing else stands
-  pub alone : (xs : List X) (after page : List ℕ) → page ≡ flat_map f xs ++ after → after ≡ [] → page ≡ flat_map f xs
-  alone xs after page is none = is ∙ ap (λ r. flat_map f xs ++ r) none ∙ append-nil (flat_map f xs)
 
   -- a piece of the items, and then the rest of them
   pub next_chunk : (xs ys rest : List X) → rest ≡ xs ++ ys → flat_map f rest ≡ flat_map f xs ++ flat_map f ys

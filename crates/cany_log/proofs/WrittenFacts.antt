@@ -50,28 +50,29 @@ IsWritten-short a b e s0 s1 n0 n1 first = record {
   failed = first.failed;
 }
 
+-- what the items of a list give, up to one more
+pub next_item : {X A : Type 0} (f : X → List A) (xs : List X) (i : ℕ) (x : X) → i < length xs → x ≡ get_or xs i x
+    → flat_map f (take (i + 1) xs) ≡ flat_map f (take i xs) ++ f x
+next_item f xs i x inside is =
+    ap (flat_map f) (take_more xs i x inside ∙ ap (λ y. take i xs ++ y ∷ []) (sym is))
+    ∙ flat_map-append f (take i xs) (x ∷ [])
+    ∙ ap (λ r. flat_map f (take i xs) ++ r) (append-nil (f x))
+
 -- Texts of the items of a list, one after another.
 module _ {X : Type 0} (f : X → List ℕ) where
-  -- the items up to one more
-  pub next_item : (xs : List X) (i : ℕ) (x : X) → i < length xs → x ≡ get_or xs i x → flat_map f (take (i + 1) xs) ≡ flat_map f (take i xs) ++ f x
-  next_item xs i x inside is =
-      ap (flat_map f) (take_more xs i x inside ∙ ap (λ y. take i xs ++ y ∷ []) (sym is))
-      ∙ flat_map-append f (take i xs) (x ∷ [])
-      ∙ ap (λ r. flat_map f (take i xs) ++ r) (append-nil (f x))
-
   all_items : (xs : List X) (i : ℕ) (x : X) → i < length xs → x ≡ get_or xs i x
       → flat_map f xs ≡ flat_map f (take i xs) ++ (f x ++ flat_map f (drop (i + 1) xs))
   all_items xs i x inside is =
       ap (flat_map f) (sym (take-append-drop (i + 1) xs))
       ∙ flat_map-append f (take (i + 1) xs) (drop (i + 1) xs)
-      ∙ ap (λ r. r ++ flat_map f (drop (i + 1) xs)) (next_item xs i x inside is)
+      ∙ ap (λ r. r ++ flat_map f (drop (i + 1) xs)) (next_item f xs i x inside is)
       ∙ append_assoc (flat_map f (take i xs)) (f x) (flat_map f (drop (i + 1) xs))
 
   -- one more item is written
   pub IsWritten-next : (xs : List X) (i : ℕ) (x : X) (s0 s1 s2 : Option (List ℕ)) (n0 n1 n2 : ℕ) → IsWritten (flat_map f (take i xs)) (Ok tt) s0 s1 n0 n1
       → i < length xs → x ≡ get_or xs i x → IsWritten (f x) (Ok tt) s1 s2 n1 n2 → IsWritten (flat_map f (take (i + 1) xs)) (Ok tt) s0 s2 n0 n2
   IsWritten-next xs i x s0 s1 s2 n0 n1 n2 before inside is this =
-      rw (next_item xs i x inside is) (IsWritten-then (flat_map f (take i xs)) (f x) (Ok tt) s0 s1 s2 n0 n1 n2 before this)
+      rw (next_item f xs i x inside is) (IsWritten-then (flat_map f (take i xs)) (f x) (Ok tt) s0 s1 s2 n0 n1 n2 before this)
 
   -- an item is cut short
   pub IsWritten-cut : (xs : List X) (i : ℕ) (x : X) (e : Failed) (s0 s1 s2 : Option (List ℕ)) (n0 n1 n2 : ℕ) → IsWritten (flat_map f (take i xs)) (Ok tt) s0 s1 n0 n1

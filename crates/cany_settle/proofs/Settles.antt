@@ -11,7 +11,7 @@ use Rattle.cany_base.specs.Frame.{FrameParts}
 use Rattle.cany_base.specs.Scenario.{ScenarioParts}
 use Rattle.cany_model.specs.Bus.Frames.{Identity, identity_of, same_class}
 use Rattle.cany_model.specs.Bus.History.{history, is_got, seen}
-use Rattle.cany_model.specs.Bus.State.{Incarnation, NodeState, RunState, absent, node_at, runs}
+use Rattle.cany_model.specs.Bus.State.{Incarnation, RunState, node_at, runs}
 use Rattle.cany_model.specs.Bus.Waiting.{waits}
 use Rattle.cany_model.specs.Promises.Settled.{came_too_late, is_ahead, is_awaited, is_settled, origin_has_asked}
 use Rattle.cany_model.specs.Promises.Quiet.{is_top}
@@ -22,7 +22,7 @@ use Rattle.cany_model.specs.Rules.Sends.{is_sent_at_once, sendable}
 use Rattle.cany_model.specs.Rules.Totcan.{can_be_accepted, has_closing_ahead}
 use Rattle.cany_model.specs.Rules.Turn.{has_asked, is_ahead_at, scenario_at, scenario_for}
 use Rattle.cany_model.specs.Runs.Run.{all_read}
-use Rattle.cany_model.proofs.Among.{Among, Among-append_left, Among-append_right, Among-from_Contains, Among-from_any, Among-place, Among-weaker, Among-which, Each-of, any-from_Among}
+use Rattle.cany_model.proofs.Among.{Among, Among-append_left, Among-append_right, Among-from_Contains, Among-from_any, Among-weaker, Among-which, Each-of, any-from_Among}
 use Rattle.cany_model.proofs.Bus.Carried.{is_got-true}
 use Rattle.cany_model.proofs.Bus.Identities.{same_class-true}
 use Rattle.cany_model.proofs.Bus.Seen.{history-is}

@@ -1,6 +1,6 @@
 -- A turn in which no frame of a message is asked for: its notice, the one that may run out a timer, and those within which a message can be accepted carry no
 -- frame of the lower classes, nothing is scripted to be sent in it, and all of the backlog was asked for.
-use Rattle.std.proofs.Common.{◌≡◌, ℕ, ◌<◌, ◌&&◌, ◌==◌, inl, inr, Bool, true, false, not, List, [], ◌∷◌, ◌++◌, filter, map, length, take, drop, slice_index_or, Option, Some, None, refl, ap, sym, ◌∙◌, arith, append-nil}
+use Rattle.std.proofs.Common.{◌≡◌, ℕ, ◌<◌, ◌&&◌, ◌==◌, inl, inr, Bool, true, false, not, List, [], ◌∷◌, ◌++◌, filter, map, length, take, drop, slice_index_or, Option, Some, None, refl, ap, sym, ◌∙◌, arith, append-nil, cond}
 use Rattle.std.specs.List.{AllByRecursion, list_any}
 use Rattle.std.proofs.lemmas.Bool.{and_parts, both_ways, cond_both, eqb-true, false_from_ne_true, false≢true, or_cases, or_left, or_right}
 use Rattle.cany_base.specs.declared.class.Class.{Class}
@@ -68,16 +68,19 @@ not_lower f c lower top same =
 abbrev Others : List Effect → Type 0
 Others effects = AllByRecursion (AsksOnly IsOther) effects
 
+-- what is called for at a frame of one of the lower classes alone, where the frame is of none of them
+lower_others : (f : FrameParts) (c : Class) (effects : List Effect) → is_top c ≡ false → not (is_top f.class) ≡ false → Others (cond (same_class f.class c) effects [])
+lower_others f c effects lower top =
+    cond_both (same_class f.class c) effects [] Others (λ same. absurd (not_lower f c lower top same)) (λ _. tt)
+
 -- ---- EDCAN
 
 edcan_others : (scenario : ScenarioParts) (i : ℕ) (e : NoticeKind) (before : List NoticeKind) → is_low e ≡ false → Others (edcan_effects scenario i (e ∷ before))
 unfolding edcan_effects edcan_at
 edcan_others scenario i Idle before plain = tt
 edcan_others scenario i Bad before plain = tt
-edcan_others scenario i (Got f) before plain =
-    cond_both (same_class f.class class.Ed) _ [] Others (λ ed. absurd (not_lower f class.Ed top_ed plain ed)) (λ _. tt)
-edcan_others scenario i (Sent f) before plain =
-    cond_both (same_class f.class class.Ed) _ [] Others (λ ed. absurd (not_lower f class.Ed top_ed plain ed)) (λ _. tt)
+edcan_others scenario i (Got f) before plain = lower_others f class.Ed _ top_ed plain
+edcan_others scenario i (Sent f) before plain = lower_others f class.Ed _ top_ed plain
 
 -- ---- RELCAN
 
@@ -85,10 +88,8 @@ relcan_notice : (p : Parameters) (i : ℕ) (e : NoticeKind) (before : List Notic
 unfolding relcan_at
 relcan_notice p i Idle before plain = tt
 relcan_notice p i Bad before plain = tt
-relcan_notice p i (Got f) before plain =
-    cond_both (same_class f.class class.Rel) _ [] Others (λ rel. absurd (not_lower f class.Rel top_rel plain rel)) (λ _. tt)
-relcan_notice p i (Sent f) before plain =
-    cond_both (same_class f.class class.Rel) _ [] Others (λ rel. absurd (not_lower f class.Rel top_rel plain rel)) (λ _. tt)
+relcan_notice p i (Got f) before plain = lower_others f class.Rel _ top_rel plain
+relcan_notice p i (Sent f) before plain = lower_others f class.Rel _ top_rel plain
 
 falls_rel : (timer i : ℕ) (f : FrameParts) (past : List NoticeKind) → falls_back timer i (identity_of f) past ≡ true → same_class f.class class.Rel ≡ true
 falls_rel timer i f past h =

@@ -1,6 +1,6 @@
 -- The last event of a run: after it nobody is asked to send anything new, no sender sees an error, no node stops, and all that
 -- is carried are frames of the classes that win over all others.
-use Rattle.std.specs.Prelude.{ℕ, ◌&&◌, ◌||◌, Bool, true, false, not, nat_lt, if◌then◌else◌, List, [], ◌∷◌, map}
+use Rattle.std.specs.Prelude.{ℕ, ◌||◌, Bool, not, nat_lt, if◌then◌else◌, List, [], ◌∷◌, map}
 use Rattle.cany_base.specs.declared.message.NodeAsk.{NodeAsk}
 use Rattle.cany_base.specs.declared.message.SendAsk.{SendAsk}
 use Rattle.cany_base.specs.declared.slot_note.SlotNote.{SlotNote}

@@ -3,9 +3,9 @@ use Rattle.std.specs.List.{flat_map, range_with_len}
 use Rattle.std.proofs.lemmas.List.FromFn.{length-range_with_len}
 use Rattle.std.proofs.lemmas.Result.{err_from_is_err_and}
 use Rattle.cany_log.specs.ReportItems.{journal_text, line_count}
-use Rattle.cany_log.proofs.PageFacts.{alone, past_items}
+use Rattle.cany_log.proofs.PageFacts.{past_items}
 use Rattle.cany_log.proofs.ReportFacts.{journal_lines_text, next_lines}
-use Rattle.cany_log.proofs.UpToFacts.{IsWrittenUpTo-next, IsWrittenUpTo-cut, IsWrittenUpTo-all}
+use Rattle.cany_log.proofs.UpToFacts.{IsPagedUpTo-next, IsPagedUpTo-cut, IsPagedUpTo-all}
 use Rattle.cany_log.proofs.WrittenFacts.{IsWritten-short}
 use Rattle.cany_log.proofs.heading.write_journal.Goals as goal
 
@@ -15,13 +15,15 @@ loop-first-init g c =
     let count = line_count c.args.journal.now in
     let within : c.same_lines-same.result * c.whole_pages-pages.result ≤ count = omega (arith, c.whole_pages-pages.ensures) in
     record {
-      written = record {
-        done = flat_map line (range_with_len 0 (c.same_lines-same.result * c.whole_pages-pages.result));
-        parts = journal_lines_text c.args.journal.now ∙ next_lines line 0 (c.same_lines-same.result * c.whole_pages-pages.result) count (omega arith) within;
-        written = c.in_ok-write_same_pages.ensures.written;
+      lines = record {
+        written = record {
+          done = flat_map line (range_with_len 0 (c.same_lines-same.result * c.whole_pages-pages.result));
+          parts = journal_lines_text c.args.journal.now ∙ next_lines line 0 (c.same_lines-same.result * c.whole_pages-pages.result) count (omega arith) within;
+          written = c.in_ok-write_same_pages.ensures.written;
+        };
+        empty = c.in_ok-write_same_pages.ensures.empty;
       };
       within = within;
-      empty = c.in_ok-write_same_pages.ensures.empty;
     }
 
 pub write_same_pages-requires : goal.write_same_pages-requires
@@ -47,36 +49,31 @@ returns-in_err-write_same_pages g c =
 pub put_journal-requires : goal.put_journal-requires
 put_journal-requires g c = record {
   order = (omega (arith, c.min-end.ensures), omega (arith, c.min-end.ensures));
-  room = omega (arith, c.min-end.ensures, ap length c.loop-first.invariant.empty);
+  room = omega (arith, c.min-end.ensures, ap length c.loop-first.invariant.lines.empty);
 }
 
 pub loop-first-preserved : goal.loop-first-preserved
 loop-first-preserved g c =
-    let line = journal_text c.args.journal.now in
-    let page = alone line _ _ _ c.put_journal.ensures c.loop-first.invariant.empty in
-    let parts = next_lines line c.loop-first.first c.min-end.result (line_count c.args.journal.now) (omega (arith, c.min-end.ensures)) (omega (arith, c.min-end.ensures)) in
+    let parts = next_lines (journal_text c.args.journal.now) c.loop-first.first c.min-end.result (line_count c.args.journal.now) (omega (arith, c.min-end.ensures)) (omega (arith, c.min-end.ensures)) in
     record {
-      written = IsWrittenUpTo-next _ _ _ _ _ _ _ _ _ _ c.loop-first.invariant.written parts (rw page at c.in_ok-write_page.ensures.written);
+      lines = IsPagedUpTo-next _ _ _ _ _ _ _ _ _ _ _ _ _ c.loop-first.invariant.lines parts c.put_journal.ensures c.in_ok-write_page.ensures.written c.in_ok-write_page.ensures.empty;
       within = omega (arith, c.min-end.ensures);
-      empty = c.in_ok-write_page.ensures.empty;
     }
 
 pub returns-in_err-write_page : goal.returns-in_err-write_page
 returns-in_err-write_page g c =
-    let line = journal_text c.args.journal.now in
     let p = err_from_is_err_and c.from_residual-in_err-write_page.result c.from_residual-in_err-write_page.ensures.1 in
-    let page = alone line _ _ _ c.put_journal.ensures c.loop-first.invariant.empty in
-    let parts = next_lines line c.loop-first.first c.min-end.result (line_count c.args.journal.now) (omega (arith, c.min-end.ensures)) (omega (arith, c.min-end.ensures)) in
+    let parts = next_lines (journal_text c.args.journal.now) c.loop-first.first c.min-end.result (line_count c.args.journal.now) (omega (arith, c.min-end.ensures)) (omega (arith, c.min-end.ensures)) in
     record {
-      written = rw p.1 (IsWrittenUpTo-cut _ _ _ _ _ _ _ _ _ _ _ c.loop-first.invariant.written parts (rw page at c.in_err-write_page.ensures.written));
+      written = IsPagedUpTo-cut _ _ _ _ _ _ _ _ _ _ _ _ _ _ c.loop-first.invariant.lines parts c.put_journal.ensures p.1 c.in_err-write_page.ensures.written;
       empty = c.in_err-write_page.ensures.empty;
     }
 
 pub returns : goal.returns
 returns g c =
-    let line = journal_text c.args.journal.now in
+    let lines = line_count c.args.journal.now in
     record {
-      written = IsWrittenUpTo-all _ _ _ _ _ _ c.loop-first.invariant.written
-          (past_items line (range_with_len 0 (line_count c.args.journal.now)) c.loop-first.first (omega (arith, length-range_with_len 0 (line_count c.args.journal.now))));
-      empty = c.loop-first.invariant.empty;
+      written = IsPagedUpTo-all _ _ _ _ _ _ _ c.loop-first.invariant.lines
+          (past_items (journal_text c.args.journal.now) (range_with_len 0 lines) c.loop-first.first (omega (arith, length-range_with_len 0 lines)));
+      empty = c.loop-first.invariant.lines.empty;
     }

@@ -22,7 +22,7 @@ returns-clause-written g c =
     let text = same_pages journal_line c.args.journal.now c.args.lines c.requires.again c.args.pages c.requires.whole in
     elim c.if-pages-gt0.branch [
       | then-pages-gt0 w ↦
-          let page = alone line (range_with_len 0 c.args.lines) c.args.page.now c.if-pages-gt0.page (w.page-is ∙ w.put_journal.ensures) c.requires.page in
+          let page = alone (flat_map line (range_with_len 0 c.args.lines)) c.args.page.now c.if-pages-gt0.page (w.page-is ∙ w.put_journal.ensures) c.requires.page in
           rw (text, sym page) c.write_page_times.ensures.written
       | else-pages-gt0 w ↦
           let none : c.args.pages ≡ 0 = omega (arith, w.if-pages-gt0.false) in

@@ -23,11 +23,10 @@ loop-place-preserved c =
     let asks = c.args.restarts.now in
     let place = c.loop-place.place in
     let restart = c.index-restarts-place.result in
-    let within : place < length asks = omega arith in
     let room : nat_le most_restarts_of_node c.count_of_node.result ≡ false = grind (arith, nat_tests) in
     λ k d before. below_more (λ (j : ℕ). (e : NodeAsk) → holds_at is_one_too_many asks j e ≡ false) place
     (λ j below e. c.loop-place.invariant j e below)
-    (λ e. too_many_by_count asks place restart e c.count_of_node.result within c.index-restarts-place.is c.count_of_node.ensures ∙ room) k before d
+    (λ e. too_many_by_count asks place restart e c.count_of_node.result (omega arith) c.index-restarts-place.is c.count_of_node.ensures ∙ room) k before d
 
 pub returns : goal.returns
 returns c = sym (first_after-none is_one_too_many c.args.restarts.now (λ k d within. c.loop-place.invariant k d (omega arith)))
