@@ -33,38 +33,38 @@ fn of_command(alloc: Global, arg: &str) -> Result<String, AllocError> {
     format!(in alloc; "canely: unknown command{shown}; see canely --help\n")
 }
 
-fn of_number(alloc: Global, arg: &str) -> Result<String, AllocError> {
-    let shown = quoted(alloc, arg)?;
-    let most = u32::MAX;
-    format!(in alloc; "canely: invalid number{shown}: storm takes 1 to 10 digits, at most {most}\n")
+/// A command that takes one argument: its name, what the argument is, and the form that it has to
+/// have.
+struct TakesOne {
+    command: &'static str,
+    argument: &'static str,
+    form: &'static str,
 }
 
-/// What is wrong with the arguments after `storm`.
-fn of_storm(alloc: Global, rest: &[String]) -> Result<String, AllocError> {
+const STORM: TakesOne = TakesOne {
+    command: "storm",
+    argument: "number",
+    form: "1 to 10 digits, at most 4294967295",
+};
+
+const WATCH: TakesOne = TakesOne {
+    command: "watch",
+    argument: "node",
+    form: "1 or 2 digits",
+};
+
+/// What is wrong with the arguments after such a command.
+fn of_one(alloc: Global, takes: &TakesOne, rest: &[String]) -> Result<String, AllocError> {
+    let command = takes.command;
+    let argument = takes.argument;
     match rest {
-        [] => String::from_str(alloc, "canely: storm needs a number; see canely --help\n"),
-        [arg] => of_number(alloc, arg.as_str()),
-        _ => String::from_str(
-            alloc,
-            "canely: storm takes one number alone; see canely --help\n",
-        ),
-    }
-}
-
-fn of_node(alloc: Global, arg: &str) -> Result<String, AllocError> {
-    let shown = quoted(alloc, arg)?;
-    format!(in alloc; "canely: invalid node{shown}: watch takes 1 or 2 digits\n")
-}
-
-/// What is wrong with the arguments after `watch`.
-fn of_watch(alloc: Global, rest: &[String]) -> Result<String, AllocError> {
-    match rest {
-        [] => String::from_str(alloc, "canely: watch needs a node; see canely --help\n"),
-        [arg] => of_node(alloc, arg.as_str()),
-        _ => String::from_str(
-            alloc,
-            "canely: watch takes one node alone; see canely --help\n",
-        ),
+        [] => format!(in alloc; "canely: {command} needs a {argument}; see canely --help\n"),
+        [arg] => {
+            let shown = quoted(alloc, arg.as_str())?;
+            let form = takes.form;
+            format!(in alloc; "canely: invalid {argument}{shown}: {command} takes {form}\n")
+        }
+        _ => format!(in alloc; "canely: {command} takes one {argument} alone; see canely --help\n"),
     }
 }
 
@@ -77,9 +77,9 @@ fn of_args(alloc: Global, args: &[String]) -> Result<String, AllocError> {
     match args {
         [] => String::from_str(alloc, "canely: no command given; see canely --help\n"),
         [arg, rest @ ..] => match arg.as_str() {
-            "storm" => of_storm(alloc, rest),
+            "storm" => of_one(alloc, &STORM, rest),
             "media" => String::from_str(alloc, OF_MEDIA),
-            "watch" => of_watch(alloc, rest),
+            "watch" => of_one(alloc, &WATCH, rest),
             "replay" | "check" | "run" | "replica" | "tail" | "--help" | "--version" => {
                 format!(in alloc; "canely: {arg} takes no arguments; see canely --help\n")
             }

@@ -10,6 +10,7 @@ use Rattle.cany_text.specs.TextNames.{service_name}
 use Rattle.cany_check.specs.declared.counts.FateCounts.{FateCounts}
 use Rattle.cany_check.specs.declared.counts.Lengths.{Lengths}
 use Rattle.cany_check.specs.declared.findings.Judgement.{Judgement}
+use Rattle.cany_check.specs.declared.findings.Part.{Part}
 use Rattle.cany_check.specs.declared.findings.Part.TheVariants.{Integrity, Agreement, Order, Views, Signs, Accuracy}
 use Rattle.cany_check.specs.Account.{AccountParts}
 use Rattle.cany_check.specs.CheckHead.{accuracy_line, agreement_line, first_line, head_lines, integrity_line, judgement_name, order_line, signs_line, views_line}
@@ -21,34 +22,34 @@ use Rattle.cany_check.specs.Views.{view_numbers, view_partings}
 
 -- ---- the lines of the parts, by what is judged and counted of each
 
-module _ (a : AccountParts) (judged : Judgement) where
-  pub integrity-put : judged ≡ judgement a Integrity → part_line a Integrity ≡ line_of (codes "integrity" ∷ judgement_name judged ∷ [])
+module _ (a : AccountParts) (judged : Judgement) (part : Part) (is : judged ≡ judgement a part) where
+  pub integrity-put : part ≡ Integrity → part_line a part ≡ line_of (codes "integrity" ∷ judgement_name judged ∷ [])
   unfolding part_line integrity_line
-  integrity-put is = rw is refl
+  integrity-put of = rw (is, of) refl
 
-  pub agreement-put : (by : Service) (counts : FateCounts) → judged ≡ judgement a (Agreement by) → counts ≡ counts_of (fates_of_service a by)
-      → part_line a (Agreement by) ≡ line_of (codes "agreement" ∷ service_name by ∷ judgement_name judged ∷ fate_texts counts)
+  pub agreement-put : (by : Service) (counts : FateCounts) → part ≡ Agreement by → counts ≡ counts_of (fates_of_service a by)
+      → part_line a part ≡ line_of (codes "agreement" ∷ service_name by ∷ judgement_name judged ∷ fate_texts counts)
   unfolding part_line agreement_line
-  agreement-put by counts is counted = rw (is, counted) refl
+  agreement-put by counts of counted = rw (is, of, counted) refl
 
-  pub order-put : (lengths : Lengths) → judged ≡ judgement a Order → lengths ≡ lengths_of (running_counts a.logs)
-      → part_line a Order ≡ line_of (codes "order" ∷ judgement_name judged ∷ codes "shortest" ∷ decimal lengths.shortest ∷ codes "longest" ∷ decimal lengths.longest ∷ [])
+  pub order-put : (lengths : Lengths) → part ≡ Order → lengths ≡ lengths_of (running_counts a.logs)
+      → part_line a part ≡ line_of (codes "order" ∷ judgement_name judged ∷ codes "shortest" ∷ decimal lengths.shortest ∷ codes "longest" ∷ decimal lengths.longest ∷ [])
   unfolding part_line order_line
-  order-put lengths is counted = rw (is, counted) refl
+  order-put lengths of counted = rw (is, of, counted) refl
 
-  pub views-put : (numbers apart : ℕ) → judged ≡ judgement a Views → numbers ≡ length (view_numbers a) → apart ≡ length (view_partings a)
-      → part_line a Views ≡ line_of (codes "views" ∷ judgement_name judged ∷ codes "numbers" ∷ decimal numbers ∷ codes "apart" ∷ decimal apart ∷ [])
+  pub views-put : (numbers apart : ℕ) → part ≡ Views → numbers ≡ length (view_numbers a) → apart ≡ length (view_partings a)
+      → part_line a part ≡ line_of (codes "views" ∷ judgement_name judged ∷ codes "numbers" ∷ decimal numbers ∷ codes "apart" ∷ decimal apart ∷ [])
   unfolding part_line views_line
-  views-put numbers apart is n p = rw (is, n, p) refl
+  views-put numbers apart of n p = rw (is, of, n, p) refl
 
-  pub signs-put : (counts : FateCounts) → judged ≡ judgement a Signs → counts ≡ counts_of (map (sign_fate a) a.signs)
-      → part_line a Signs ≡ line_of (codes "signs" ∷ judgement_name judged ∷ fate_texts counts)
+  pub signs-put : (counts : FateCounts) → part ≡ Signs → counts ≡ counts_of (map (sign_fate a) a.signs)
+      → part_line a part ≡ line_of (codes "signs" ∷ judgement_name judged ∷ fate_texts counts)
   unfolding part_line signs_line
-  signs-put counts is counted = rw (is, counted) refl
+  signs-put counts of counted = rw (is, of, counted) refl
 
-  pub accuracy-put : judged ≡ judgement a Accuracy → part_line a Accuracy ≡ line_of (codes "accuracy" ∷ judgement_name judged ∷ [])
+  pub accuracy-put : part ≡ Accuracy → part_line a part ≡ line_of (codes "accuracy" ∷ judgement_name judged ∷ [])
   unfolding part_line accuracy_line
-  accuracy-put is = rw is refl
+  accuracy-put of = rw (is, of) refl
 
 -- ---- the head
 

@@ -312,6 +312,12 @@ module _ (counts has : LogParts → Bool) (run : (x : LogParts) → counts x ≡
 
 -- ---- the logs of an account
 
+-- the nodes that count, by logs and a slot that are those of the account
+pub counting_by : (logs kept : List LogParts) (slot since : Option ℕ) (counting : Nodes) → counting ≡ nodes_of (filter (counts_since slot) logs) → logs ≡ kept → slot ≡ since
+    → counting ≡ nodes_of (filter (counts_since since) kept)
+counting_by logs kept slot since counting is same_logs same_slot =
+    is ∙ ap (λ l. nodes_of (filter (counts_since slot) l)) same_logs ∙ ap (λ n. nodes_of (filter (counts_since n) kept)) same_slot
+
 one_runs : (logs : List LogParts) → AllPairs (λ x y. x.node ≡ y.node → x.runs ≡ false) logs → OneRuns logs
 one_runs [] last = tt
 one_runs (x ∷ logs) last = (λ runs. later logs (λ k d below. last zero (suc k) d (omega arith) (omega arith)) runs, one_runs logs (λ i j d before below. last (suc i) (suc j) d (omega arith) (omega arith)))

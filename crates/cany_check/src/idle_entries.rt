@@ -1,5 +1,5 @@
 //! Which entries of the scenario of a run did nothing.
-ghost use Rattle.std.specs.Prelude.{◌≡◌, [], true, IfOk, OnOk};
+ghost use Rattle.std.specs.Prelude.{◌≡◌, true, IfOk};
 ghost use Rattle.cany_model.specs.Runs.Run.{has_ended};
 ghost use Rattle.cany_world.specs.World.{state_of};
 ghost use Rattle.cany_check.specs.Attempts.{AreAttemptsOf};
@@ -15,24 +15,19 @@ use cany_base::Memory;
 use cany_world::World;
 use std::alloc::Global;
 
-/// Appends all of them: sends, fault rules, joins, leaves and restarts, each in file order.
-fn push_all(
-    alloc: Global,
-    world: &World,
-    attempts: &Attempts,
-    found: &mut Vec<Unused>,
-) -> Result<(), Memory>
+/// `unused`, where these are the attempts of the run.
+fn unused_by(alloc: Global, world: &World, attempts: &Attempts) -> Result<Vec<Unused>, Memory>
     requires ended { has_ended world.now.scenario (state_of world.now) ≡ true }
     requires attempts { AreAttemptsOf world.now attempts.now }
-    requires empty { found.old.items ≡ [] }
-    ensures { OnOk result (found.new.items ≡ unused world.now.scenario (state_of world.now)) }
+    ensures { IfOk result (λ found. found.items ≡ unused world.now.scenario (state_of world.now)) }
 {
-    push_sends(world, found)?;
-    push_faults(alloc, world, attempts, found)?;
-    push_asks(world, attempts, Asks::Joins, found)?;
-    push_asks(world, attempts, Asks::Leaves, found)?;
-    push_restarts(world, found)?;
-    Ok(())
+    let mut found = Vec::new(alloc);
+    push_sends(world, &mut found)?;
+    push_faults(alloc, world, attempts, &mut found)?;
+    push_asks(world, attempts, Asks::Joins, &mut found)?;
+    push_asks(world, attempts, Asks::Leaves, &mut found)?;
+    push_restarts(world, &mut found)?;
+    Ok(found)
 }
 
 /// The entries of the scenario that had no effect on the run, which has ended: sends, fault rules,
@@ -45,7 +40,5 @@ pub fn unused(alloc: Global, world: &World) -> Result<Vec<Unused>, Memory>
     ensures { IfOk result (λ found. found.items ≡ unused world.now.scenario (state_of world.now)) }
 {
     let attempts = Attempts::of_run(alloc, world)?;
-    let mut found = Vec::new(alloc);
-    push_all(alloc, world, &attempts, &mut found)?;
-    Ok(found)
+    unused_by(alloc, world, &attempts)
 }

@@ -112,7 +112,7 @@ of_text bytes scenario P is p =
 -- its line is written, or not all of it, and no gate is passed
 pub refused_text : {K : Type 0} (bytes line gates : List ℕ) (sink : Stream K) (answer : ℕ) → run_refusal bytes ≡ Some line → (answer ≡ REFUSED) ⊎ (answer ≡ WRITE_FAULT)
     → (answer ≡ REFUSED → Takes (sink.bytes sink.old) line (sink.bytes sink.new)) → (answer ≡ WRITE_FAULT → HasRisen (sink.faults sink.old) (sink.faults sink.new))
-    → (answer ≡ WRITE_FAULT → TakesPrefix (sink.bytes sink.old) line (sink.bytes sink.new)) → IsTextRun bytes gates gates sink answer
+    → TakesPrefix (sink.bytes sink.old) line (sink.bytes sink.new) → IsTextRun bytes gates gates sink answer
 refused_text bytes line gates sink answer is ended written failed begun = record {
   done = λ done. absurd (not_refusing answer ended (inl done));
   not_refused = λ ran. absurd (not_refusing answer ended (ran_or_held answer ran));
@@ -121,7 +121,7 @@ refused_text bytes line gates sink answer is ended written failed begun = record
   count = none_fell gates gates refl;
   refused = λ refused. refused_by bytes line (sink.bytes sink.old) (sink.bytes sink.new) is (written refused);
   write_fault = failed;
-  start = λ fault. started_line bytes line (sink.bytes sink.old) (sink.bytes sink.new) is (begun fault);
+  start = λ fault. started_line bytes line (sink.bytes sink.old) (sink.bytes sink.new) is begun;
   untouched = λ none. absurd (not_refusing answer ended (inr none));
   status = elim ended [ inl refused ↦ inl (inr (inl refused)) | inr fault ↦ inl (inr (inr fault)) ];
 }

@@ -13,3 +13,6 @@ told_of_all-requires c =
       count = omega (arith, are.count, ap length c.messages.ensures.messages);
       each = λ i m h below m_is h_is. holders_of_one a c.messages.result.now c.as_slice.result.now i m h c.messages.ensures.messages are below m_is h_is;
     }
+
+pub returns : goal.returns
+returns c = rw c.messages.ensures.messages at c.told_of_all.ensures

@@ -20,3 +20,6 @@ told_of_all-requires c =
       count = omega (arith, are.count, ap length c.signs-signs.ensures.signs);
       each = λ i x h below x_is h_is. holders_of_one a signs c.as_slice.result.now i x h c.signs-signs.ensures.signs are below x_is h_is;
     }
+
+pub returns : goal.returns
+returns c = rw c.signs-signs.ensures.signs at c.told_of_all.ensures

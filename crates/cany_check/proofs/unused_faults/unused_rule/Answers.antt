@@ -10,7 +10,7 @@ pub unused_of_frame-requires-clause-named : goal.unused_of_frame-requires-clause
 unused_of_frame-requires-clause-named c =
     let at = c.in-FrameNth in
     let x : Identity = record { class = at.class; number = at.number; node = at.node } in
-    c.requires.named x (ap (λ p. names_frame x p || false) at.is ∙ ap (λ b. b || false) (same_identity_self x))
+    rw c.new-identity.ensures (c.requires.named x (ap (λ p. names_frame x p || false) at.is ∙ ap (λ b. b || false) (same_identity_self x)))
 
 pub returns-in-FrameNth : goal.returns-in-FrameNth
 returns-in-FrameNth c =
@@ -18,6 +18,6 @@ returns-in-FrameNth c =
     let s = state_of c.args.world.now in
     let scenario = c.args.world.now.scenario in
     let x : Identity = record { class = at.class; number = at.number; node = at.node } in
-    c.unused_of_frame.ensures
+    (rw c.new-identity.ensures at c.unused_of_frame.ensures)
     ∙ ap (λ n. unused_of_frame scenario s x c.args.rule.now (attempt_slot x n s.trace)) c.from.ensures
     ∙ sym (ap (unused_by_place scenario s c.args.rule.now) at.is)

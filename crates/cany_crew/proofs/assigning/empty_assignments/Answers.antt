@@ -1,4 +1,4 @@
-use Rattle.std.proofs.Common.{◌≡◌, vec_len, refl, sym, ap, ◌∙◌, arith}
+use Rattle.std.proofs.Common.{vec_len, refl, sym, ap, ◌∙◌, arith}
 use Rattle.std.specs.Prelude.{is_some}
 use Rattle.std.proofs.lemmas.Bool.{eqb-false, eqb-true}
 use Rattle.cany_crew.specs.Assignment.{AssignmentParts}

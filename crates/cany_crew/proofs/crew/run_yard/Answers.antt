@@ -1,4 +1,4 @@
-use Rattle.std.proofs.Common.{◌≡◌, ◌<◌, length, map, subst, ap, ◌∙◌, arith}
+use Rattle.std.proofs.Common.{◌<◌, map, subst, ap, ◌∙◌, arith}
 use Rattle.std.specs.Prelude.{IfSome}
 use Rattle.std.proofs.lemmas.List.{length-map}
 use Rattle.cany_base.specs.Scenario.{ScenarioParts}

@@ -8,7 +8,7 @@ use Rattle.cany_check.specs.declared.unused_entry.UnusedEntry.{UnusedEntry}
 use Rattle.cany_check.specs.declared.unused_entry.UnusedEntry.TheVariants as entry
 use Rattle.cany_check.specs.Unused.{as_list, is_unused_restart, unused, unused_ask, unused_rule, unused_send, with_places}
 use Rattle.cany_check.proofs.PlacesFound.{five_found}
-use Rattle.cany_check.proofs.idle_entries.push_all.Goals as goal
+use Rattle.cany_check.proofs.idle_entries.unused_by.Goals as goal
 
 pub returns : goal.returns
 unfolding unused
@@ -20,5 +20,5 @@ returns c =
     (with_places (λ (ask : NodeAsk). as_list (unused_ask scenario s Join ask)) (λ why. entry.Join why) 0 scenario.joins)
     (with_places (λ (ask : NodeAsk). as_list (unused_ask scenario s Leave ask)) (λ why. entry.Leave why) 0 scenario.leaves)
     (with_places (λ (ask : NodeAsk). if is_unused_restart s ask then entry.Restart ∷ [] else []) (λ (e : UnusedEntry). e) 0 scenario.restarts)
-    c.args.found.now.items c.push_sends.new.found.items c.push_faults.new.found.items c.push_asks.new.found.items c.push_asks-2.new.found.items c.push_restarts.new.found.items
-    c.requires.empty c.in_ok-push_sends.ensures c.in_ok-push_faults.ensures c.in_ok-push_asks.ensures c.in_ok-push_asks-2.ensures c.in_ok-push_restarts.ensures
+    c.new-found.result.items c.push_sends.new.found.items c.push_faults.new.found.items c.push_asks.new.found.items c.push_asks-2.new.found.items c.push_restarts.new.found.items
+    c.new-found.ensures.items c.in_ok-push_sends.ensures c.in_ok-push_faults.ensures c.in_ok-push_asks.ensures c.in_ok-push_asks-2.ensures c.in_ok-push_restarts.ensures
