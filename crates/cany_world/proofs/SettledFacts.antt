@@ -38,7 +38,7 @@ use Rattle.cany_world.specs.World.{WorldParts, state_of}
 use Rattle.cany_world.specs.WorldFields.{IsRun, world_parts}
 use Rattle.cany_world.proofs.AlikeFacts.{all_read_same, awaited_same}
 use Rattle.cany_world.proofs.PlaceFacts.{found}
-use Rattle.cany_world.proofs.QuietFacts.{quiet_where_none_has_anything_to_do}
+use Rattle.cany_world.proofs.NothingToDo.{nobody_waits_where_nothing_to_do}
 
 -- ---- the four parts
 
@@ -308,12 +308,12 @@ nothing_at_stopped scenario s i m c ctl b e h =
     stopped (Some slot) e = refl
 
 -- where no running node has anything to do or anything of the message ahead, it is settled as soon as it was asked for
-pub settled_where_quiet : (scenario : ScenarioParts) (journal : List Step) (m : Message) (service : Service) (key : MsgKey) (controllers : List ControllerState) (nodes : List IncarnationsParts)
+pub settled_where_nothing_to_do : (scenario : ScenarioParts) (journal : List Step) (m : Message) (service : Service) (key : MsgKey) (controllers : List ControllerState) (nodes : List IncarnationsParts)
     → IsAbout scenario journal m key controllers nodes → m.service ≡ service → HaveNothingToDo controllers → is_ahead scenario (run scenario journal) m ≡ false
     → is_settled scenario (run scenario journal) m ≡ is_asked scenario (run scenario journal) m
-settled_where_quiet scenario journal m service key controllers nodes about by quiet none =
+settled_where_nothing_to_do scenario journal m service key controllers nodes about by quiet none =
     sym (settled_by scenario journal m service key controllers nodes (is_asked scenario (run scenario journal) m) true false about by refl
-    (sym (quiet_where_none_has_anything_to_do (frames_named service key) controllers quiet)) (sym none))
+    (sym (nobody_waits_where_nothing_to_do (frames_named service key) controllers quiet)) (sym none))
     ∙ and_true (is_asked scenario (run scenario journal) m)
   where
     and_true : (b : Bool) → (b && true && true) ≡ b

@@ -36,7 +36,7 @@ all_have_read (c ∷ controllers) quiet =
     let here : has_read c ≡ true = has_read_all c.stopped c.unread (λ running. (quiet 0 c refl running).unread) in
     ap (λ b. b && list_all has_read controllers) here ∙ all_have_read controllers (λ i x at. quiet (suc i) x at)
 
-pub quiet_where_none_has_anything_to_do : (frames : List Identity) (controllers : List ControllerState) → HaveNothingToDo controllers
+pub nobody_waits_where_nothing_to_do : (frames : List Identity) (controllers : List ControllerState) → HaveNothingToDo controllers
     → (not (list_any (awaits frames) controllers) && list_all has_read controllers) ≡ true
-quiet_where_none_has_anything_to_do frames controllers quiet =
+nobody_waits_where_nothing_to_do frames controllers quiet =
     ap (λ b. not b && list_all has_read controllers) (nobody_awaits frames controllers quiet) ∙ all_have_read controllers quiet
