@@ -4,12 +4,12 @@ use Rattle.std.specs.List.{list_any}
 use Rattle.std.specs.Option.{option_map_or, option_or}
 use Rattle.cany_base.specs.declared.log_entry.LogEntry.{LogEntry}
 use Rattle.cany_base.specs.declared.log_entry.LogEntry.TheVariants.{Deliver, Failed, View}
+use Rattle.cany_base.specs.Cycles.{cycle_of}
 use Rattle.cany_model.specs.Promises.Entries.{delivers_key}
 use Rattle.cany_check.specs.declared.record.MessageRecord.{MessageRecord}
 use Rattle.cany_check.specs.declared.findings.EntryAt.{EntryAt}
 use Rattle.cany_check.specs.Account.{AccountParts, LogParts}
 use Rattle.cany_check.specs.Words.{correct, entry_slot, is_delivery}
-use Rattle.cany_base.specs.Cycles.{cycle_of}
 
 -- whether the message is what the entry delivers, and was sent by then
 abbrev pub was_sent_by_then : LogEntry → MessageRecord → Bool

@@ -12,6 +12,7 @@ use Rattle.cany_base.specs.declared.rule.Rule.{Rule}
 use Rattle.cany_base.specs.declared.rule.Verdict.{Verdict}
 use Rattle.cany_base.specs.declared.rule.Verdict.TheVariants.{Clean, Lost, Partial, Silent}
 use Rattle.cany_base.specs.declared.slot_note.SlotNote.{SlotNote}
+use Rattle.cany_base.specs.Cycles.{cycle_of}
 use Rattle.cany_base.specs.Limits.{most_nodes}
 use Rattle.cany_base.specs.Nodes.{Nodes, has, nobody}
 use Rattle.cany_base.specs.Scenario.{ScenarioParts}
@@ -28,7 +29,6 @@ use Rattle.cany_check.specs.declared.unused_entry.Unused.{Unused}
 use Rattle.cany_check.specs.declared.unused_entry.UnusedEntry.{UnusedEntry}
 use Rattle.cany_check.specs.declared.unused_entry.UnusedEntry.TheVariants as entry
 use Rattle.cany_check.specs.Words.{is_nobody}
-use Rattle.cany_base.specs.Cycles.{cycle_of}
 
 -- ---- what a node did in a slot
 

@@ -6,6 +6,7 @@ use Rattle.cany_base.specs.declared.log_entry.LogEntry.{LogEntry}
 use Rattle.cany_base.specs.declared.log_entry.LogEntry.TheVariants.{Deliver, Failed, View}
 use Rattle.cany_base.specs.declared.message.MsgKey.{MsgKey}
 use Rattle.cany_base.specs.declared.slot_note.SlotNote.{SlotNote}
+use Rattle.cany_base.specs.Cycles.{cycle_of}
 use Rattle.cany_base.specs.Nodes.{has}
 use Rattle.cany_base.specs.Scenario.{ScenarioParts}
 use Rattle.cany_model.specs.Runs.Run.{all_read}
@@ -18,7 +19,6 @@ use Rattle.cany_model.specs.Promises.Settled.{IsCorrect, IsCorrectFrom, is_settl
 use Rattle.cany_model.specs.Rules.Log.{log}
 use Rattle.cany_model.specs.Rules.Messages.{Message, messages_of, message_key, data_frame}
 use Rattle.cany_model.specs.Rules.Knowledge.{FailureSign}
-use Rattle.cany_base.specs.Cycles.{cycle_of}
 
 -- ---- no message twice or unsent
 

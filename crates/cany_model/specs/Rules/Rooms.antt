@@ -5,10 +5,10 @@ use Rattle.cany_base.specs.declared.class.Class.TheVariants.{Accept, Rha, Els, F
 use Rattle.cany_base.specs.declared.message.NodeAsk.{NodeAsk}
 use Rattle.cany_base.specs.declared.message.Service.{Service}
 use Rattle.cany_base.specs.declared.message.Service.TheVariants as service
+use Rattle.cany_base.specs.Cycles.{cycle_of}
 use Rattle.cany_base.specs.Scenario.{ScenarioParts}
 use Rattle.cany_model.specs.Bus.Frames.{Identity}
 use Rattle.cany_model.specs.Rules.Messages.{IsOfMessage, is_service}
-use Rattle.cany_base.specs.Cycles.{cycle_of}
 
 -- the identity names a node of the bus, and a number that it can reach in a run by intervals of this length
 pub record IsOfNode (scenario : ScenarioParts) (interval : ℕ) (x : Identity) : Type 0 where
