@@ -1,5 +1,5 @@
 -- No entry of the account of a run is wrong.
-use Rattle.std.proofs.Common.{◌≡◌, ℕ, ◌/◌, ◌<◌, ◌≤◌, ◌==◌, ◌&&◌, ◌||◌, Bool, true, false, not, nat_lt, List, [], ◌∷◌, ◌++◌, length, map, refl, ap, sym, subst, ◌∙◌, arith, inl, inr, Contains}
+use Rattle.std.proofs.Common.{◌≡◌, ℕ, ◌<◌, ◌≤◌, ◌==◌, ◌&&◌, ◌||◌, Bool, true, false, not, nat_lt, List, [], ◌∷◌, ◌++◌, length, map, refl, ap, sym, subst, ◌∙◌, arith, inl, inr, Contains}
 use Rattle.std.specs.Prelude.{count_by, nat_le, if◌then◌else◌, option_map, Option, Some, None}
 use Rattle.std.specs.List.{AllByRecursion, list_any}
 use Rattle.std.specs.Option.{option_map_or, option_or}
@@ -13,6 +13,7 @@ use Rattle.cany_base.specs.declared.message.MsgKey.{MsgKey}
 use Rattle.cany_base.specs.declared.message.Service.{Service}
 use Rattle.cany_base.specs.declared.slot_note.SlotNote.{SlotNote}
 use Rattle.cany_base.specs.declared.step.Step.{Step}
+use Rattle.cany_base.specs.Cycles.{cycle_of}
 use Rattle.cany_base.specs.Limits.{most_nodes}
 use Rattle.cany_base.specs.Nodes.{has}
 use Rattle.cany_base.specs.Scenario.{ScenarioParts}
@@ -132,14 +133,14 @@ module _ (scenario : ScenarioParts) (journal : List Step) (few : scenario.params
     | inr other ↦ omega (arith, count-grows p x (earlier ++ entry ∷ rest), two_pass p entry earlier rest (rw other at some) passes)
   ]
 
-  failure : (slot node cycle : ℕ) → (node < scenario.params.nodes) × (cycle ≤ slot / scenario.params.cycle)
-      → (nat_le a.params.nodes node || nat_lt (slot / a.params.cycle) cycle) ≡ false
+  failure : (slot node cycle : ℕ) → (node < scenario.params.nodes) × (cycle ≤ cycle_of scenario.params slot)
+      → (nat_le a.params.nodes node || nat_lt (cycle_of a.params slot) cycle) ≡ false
   unfolding account_of
-  failure slot node cycle h = rw (lt-leb scenario.params.nodes node h.0, le-ltb (slot / scenario.params.cycle) cycle h.1) refl
+  failure slot node cycle h = rw (lt-leb scenario.params.nodes node h.0, le-ltb (cycle_of scenario.params slot) cycle h.1) refl
 
-  view : (slot number : ℕ) → number ≡ slot / scenario.params.cycle → not (number == slot / a.params.cycle) ≡ false
+  view : (slot number : ℕ) → number ≡ cycle_of scenario.params slot → not (number == cycle_of a.params slot) ≡ false
   unfolding account_of
-  view slot number h = ap not (eq-eqb number (slot / scenario.params.cycle) h)
+  view slot number h = ap not (eq-eqb number (cycle_of scenario.params slot) h)
 
   module _ (i : ℕ) (c : IsCorrect scenario s i) where
     not_wrong : (earlier : List LogEntry) (entry : LogEntry) (rest : List LogEntry) → log scenario s i ≡ earlier ++ entry ∷ rest → IsSound scenario s entry

@@ -1,9 +1,10 @@
 -- Integrity: no entry of the log of a correct node is wrong.
-use Rattle.std.specs.Prelude.{ℕ, ◌/◌, ◌==◌, ◌&&◌, ◌||◌, Bool, false, not, nat_le, nat_lt, if◌then◌else◌, List, [], ◌∷◌, ◌++◌, length, Option, Some, None, option_map}
+use Rattle.std.specs.Prelude.{ℕ, ◌==◌, ◌&&◌, ◌||◌, Bool, false, not, nat_le, nat_lt, if◌then◌else◌, List, [], ◌∷◌, ◌++◌, length, Option, Some, None, option_map}
 use Rattle.std.specs.List.{list_any}
 use Rattle.std.specs.Option.{option_map_or, option_or}
 use Rattle.cany_base.specs.declared.log_entry.LogEntry.{LogEntry}
 use Rattle.cany_base.specs.declared.log_entry.LogEntry.TheVariants.{Deliver, Failed, View}
+use Rattle.cany_base.specs.Cycles.{cycle_of}
 use Rattle.cany_model.specs.Promises.Entries.{delivers_key}
 use Rattle.cany_check.specs.declared.record.MessageRecord.{MessageRecord}
 use Rattle.cany_check.specs.declared.findings.EntryAt.{EntryAt}
@@ -20,8 +21,8 @@ was_sent_by_then entry m = is_delivery m entry && option_map_or (λ slot. nat_le
 abbrev pub is_wrong : AccountParts → List LogEntry → LogEntry → Bool
 is_wrong a earlier (Deliver slot service msg payload) =
     list_any (delivers_key msg) earlier || not (list_any (was_sent_by_then (Deliver slot service msg payload)) a.messages)
-is_wrong a earlier (Failed slot node cycle) = nat_le a.params.nodes node || nat_lt (slot / a.params.cycle) cycle
-is_wrong a earlier (View slot number members) = not (number == slot / a.params.cycle)
+is_wrong a earlier (Failed slot node cycle) = nat_le a.params.nodes node || nat_lt (cycle_of a.params slot) cycle
+is_wrong a earlier (View slot number members) = not (number == cycle_of a.params slot)
 
 -- the place of the first wrong entry of a log, after these earlier ones
 unfoldable pub first_wrong : AccountParts → List LogEntry → List LogEntry → Option ℕ

@@ -1,5 +1,5 @@
 -- The entries of a scenario that did nothing in a run.
-use Rattle.std.specs.Prelude.{ℕ, ◌+◌, ◌/◌, ◌==◌, ◌&&◌, Bool, true, false, not, is_some, nat_le, nat_lt, if◌then◌else◌, List, [], ◌∷◌, ◌++◌, find, map, Option, Some, None}
+use Rattle.std.specs.Prelude.{ℕ, ◌+◌, ◌==◌, ◌&&◌, Bool, true, false, not, is_some, nat_le, nat_lt, if◌then◌else◌, List, [], ◌∷◌, ◌++◌, find, map, Option, Some, None}
 use Rattle.std.specs.List.{cons_option, list_any, range_with_len}
 use Rattle.std.specs.Option.{option_map_or}
 use Rattle.cany_base.specs.declared.class.Class.{Class}
@@ -12,6 +12,7 @@ use Rattle.cany_base.specs.declared.rule.Rule.{Rule}
 use Rattle.cany_base.specs.declared.rule.Verdict.{Verdict}
 use Rattle.cany_base.specs.declared.rule.Verdict.TheVariants.{Clean, Lost, Partial, Silent}
 use Rattle.cany_base.specs.declared.slot_note.SlotNote.{SlotNote}
+use Rattle.cany_base.specs.Cycles.{cycle_of}
 use Rattle.cany_base.specs.Limits.{most_nodes}
 use Rattle.cany_base.specs.Nodes.{Nodes, has, nobody}
 use Rattle.cany_base.specs.Scenario.{ScenarioParts}
@@ -63,7 +64,7 @@ missed s slot i = if made_asks s slot i then None else Some (missed_by (find (re
 -- whether a later slot carried the frame by which a node asks to join or to leave in the cycle of this slot
 abbrev pub is_carried_later : ScenarioParts → RunState → Class → NodeAsk → Bool
 is_carried_later scenario s c ask =
-    list_any (λ note. nat_lt ask.slot note.slot && carried (is_of (record { class = c; number = ask.slot / scenario.params.cycle; node = ask.node })) note) s.trace
+    list_any (λ note. nat_lt ask.slot note.slot && carried (is_of (record { class = c; number = cycle_of scenario.params ask.slot; node = ask.node })) note) s.trace
 
 abbrev pub unused_send : RunState → SendAsk → Option NoAsk
 unused_send s send = missed s send.slot send.node

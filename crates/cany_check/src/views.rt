@@ -14,7 +14,7 @@ use std::alloc::Global;
 
 /// Of a number the first view, and the first that has other members or, where none has, the first
 /// again; `None`, where there is no view of it.
-type Row = Option<ViewParting>;
+type ViewRow = Option<ViewParting>;
 
 /// Whether the two views have other members.
 fn is_apart(row: &ViewParting) -> bool
@@ -43,7 +43,7 @@ fn with_other(row: &ViewParting, node: NodeId, members: NodeSet) -> ViewParting
 }
 
 /// The row of a number, with one more view of it.
-fn with_view(row: &Row, number: u16, node: NodeId, members: NodeSet) -> Row
+fn with_view(row: &ViewRow, number: u16, node: NodeId, members: NodeSet) -> ViewRow
     ensures { result ≡ with_view row.now (record { node = node; number = number; members = members }) }
 {
     match row {
@@ -59,7 +59,7 @@ fn with_view(row: &Row, number: u16, node: NodeId, members: NodeSet) -> Row
 }
 
 /// Makes the table so long that it has a row for the number.
-fn grow(rows: &mut Vec<Row>, number: usize) -> Result<(), Memory>
+fn grow(rows: &mut Vec<ViewRow>, number: usize) -> Result<(), Memory>
     ensures within { OnOk result (number < length rows.new.items) }
     ensures kept { OnOk result ((k : ℕ) → slice_index_or rows.new.items k None ≡ slice_index_or rows.old.items k None) }
 {
@@ -70,7 +70,12 @@ fn grow(rows: &mut Vec<Row>, number: usize) -> Result<(), Memory>
 }
 
 /// Puts one more view into the table.
-fn put_view(rows: &mut Vec<Row>, number: u16, node: NodeId, members: NodeSet) -> Result<(), Memory>
+fn put_view(
+    rows: &mut Vec<ViewRow>,
+    number: u16,
+    node: NodeId,
+    members: NodeSet,
+) -> Result<(), Memory>
     ensures { OnOk result ((k : ℕ) → slice_index_or rows.new.items k None ≡ (if k == number
         then with_view (slice_index_or rows.old.items k None) (record { node = node; number = number; members = members })
         else slice_index_or rows.old.items k None)) }
@@ -83,7 +88,7 @@ fn put_view(rows: &mut Vec<Row>, number: u16, node: NodeId, members: NodeSet) ->
 }
 
 /// Puts the view of an entry of the node's log into the table, if the entry has one.
-fn put_entry(rows: &mut Vec<Row>, node: NodeId, entry: &LogEntry) -> Result<(), Memory>
+fn put_entry(rows: &mut Vec<ViewRow>, node: NodeId, entry: &LogEntry) -> Result<(), Memory>
     ensures { OnOk result ((views : List HeldView) → HasRows views rows.old.items → HasRows (views ++ view_in node entry.now) rows.new.items) }
 {
     match entry {
@@ -98,7 +103,7 @@ fn put_entry(rows: &mut Vec<Row>, node: NodeId, entry: &LogEntry) -> Result<(), 
 }
 
 /// Puts the views of the log into the table.
-fn put_log(rows: &mut Vec<Row>, log: &LogRecord<'_>) -> Result<(), Memory>
+fn put_log(rows: &mut Vec<ViewRow>, log: &LogRecord<'_>) -> Result<(), Memory>
     ensures { OnOk result ((views : List HeldView) → HasRows views rows.old.items → HasRows (views ++ views_in (log_parts log.now)) rows.new.items) }
 {
     for entry in log.entries {
@@ -108,7 +113,7 @@ fn put_log(rows: &mut Vec<Row>, log: &LogRecord<'_>) -> Result<(), Memory>
 }
 
 /// The views of the logs that run, in a table by number.
-fn rows_of(alloc: Global, logs: &[LogRecord<'_>]) -> Result<Vec<Row>, Memory>
+fn rows_of(alloc: Global, logs: &[LogRecord<'_>]) -> Result<Vec<ViewRow>, Memory>
     ensures { IfOk result (λ rows. HasRows (flat_map views_in (running (map log_parts logs.now))) rows.items) }
 {
     let mut rows = Vec::new(alloc);
@@ -121,14 +126,14 @@ fn rows_of(alloc: Global, logs: &[LogRecord<'_>]) -> Result<Vec<Row>, Memory>
 }
 
 /// How many numbers there is a view of.
-fn count_numbers(rows: &[Row]) -> usize
+fn count_numbers(rows: &[ViewRow]) -> usize
     ensures { result ≡ count_by is_some rows.now }
 {
     rows.iter().filter(|row| row.is_some()).count()
 }
 
 /// Where the views of a number part, if there are some and they do.
-fn parting_of(row: &Row) -> Option<ViewParting>
+fn parting_of(row: &ViewRow) -> Option<ViewParting>
     ensures { result ≡ parting_of row.now }
 {
     match row {
@@ -138,7 +143,7 @@ fn parting_of(row: &Row) -> Option<ViewParting>
 }
 
 /// Where the views of each number part that is apart, ascending.
-fn find_partings(alloc: Global, rows: &[Row]) -> Result<Vec<ViewParting>, Memory>
+fn find_partings(alloc: Global, rows: &[ViewRow]) -> Result<Vec<ViewParting>, Memory>
     ensures { IfOk result (λ found. found.items ≡ filter_map parting_of rows.now) }
 {
     let mut found = Vec::new(alloc);

@@ -16,7 +16,7 @@ use Rattle.cany_model.specs.Rules.Effect.{Effect}
 use Rattle.cany_model.specs.Rules.Vectors.{brought, end_effects, ended, exchange_at, is_covered, is_new, met, met_with, start_effects, vector_effects, vector_effects_of, vector_in}
 use Rattle.cany_base.specs.Cycles.{cycle_of, is_exchange, is_start}
 use Rattle.cany_history.specs.History.{HistoryParts, IsExchangeOf, IsHistoryOf, IsNextAt, StartsWith}
-use Rattle.cany_history.specs.HistorySteps.{brought_actions, end_actions, got_actions, having_ended, having_read, is_covered_by, met_by, read_actions, start_actions}
+use Rattle.cany_history.specs.HistorySteps.{brought_actions, end_actions, got_actions, after_ending, after_reading, is_covered_by, met_by, read_actions, start_actions}
 use Rattle.cany_history.proofs.ReadFacts.{got_some, value}
 use Rattle.cany_history.proofs.TurnFacts.{end_node, end_params, read_node, read_params, read_vector, same_counts, whole}
 
@@ -85,7 +85,7 @@ start_acts p i slot v params node (Some own) none = elim (cases_Bool (is_start p
 
 module _ (scenario : ScenarioParts) (i : ℕ) (past : List NoticeKind) (own : Option Nodes) (notice : Notice) (v : HistoryParts)
     (h : IsHistoryOf scenario i past own v) (next : IsNextAt scenario i past own notice)
-    (read : HistoryParts) (reads : read ≡ having_read notice.slot notice.kind v) (end : HistoryParts) (ends : end ≡ having_ended notice.slot read)
+    (read : HistoryParts) (reads : read ≡ after_reading notice.slot notice.kind v) (end : HistoryParts) (ends : end ≡ after_ending notice.slot read)
     (start : Option Nodes) (with_start : StartsWith v.params notice.slot start) where
   -- the effects of each step, at the slot of the notice
   abbrev by_notice : ℕ → List Effect

@@ -12,7 +12,7 @@ use Rattle.cany_model.specs.Rules.Vectors.{brought, is_just, is_new, is_vector_g
 use Rattle.cany_base.specs.Cycles.{cycle_of, is_exchange}
 use Rattle.cany_model.proofs.Among.{count-cons, count-no}
 use Rattle.cany_history.specs.History.{HasMore, HistoryParts, IsExchangeOf, StandsIn}
-use Rattle.cany_history.specs.HistorySteps.{after_meeting, having_read, is_just_own, is_own_vector, met_by}
+use Rattle.cany_history.specs.HistorySteps.{after_meeting, after_reading, is_just_own, is_own_vector, met_by}
 use Rattle.cany_history.proofs.PastFacts.{new_copies, new_own, smaller_more, vector_frame}
 use Rattle.cany_history.proofs.MetFacts.{met_part_got, met_part_own, same_bits}
 
@@ -41,8 +41,8 @@ met_is (Some got) v = record {
 }
 
 pub read_is : (slot : ℕ) (notice : NoticeKind) (v : HistoryParts)
-    → IsRead v.params v.vector (brought v.params slot notice) v (having_read slot notice v)
-unfolding having_read brought met
+    → IsRead v.params v.vector (brought v.params slot notice) v (after_reading slot notice v)
+unfolding after_reading brought met
 read_is slot Idle v = record { node = refl; params = refl; vector = refl; few = omega arith }
 read_is slot Bad v = record { node = refl; params = refl; vector = refl; few = omega arith }
 read_is slot (Got f) v = met_is (if is_exchange v.params slot then vector_in v.params.format (cycle_of v.params slot) f else None) v
@@ -144,8 +144,8 @@ module _ (p : Parameters) (i slot : ℕ) (past : List NoticeKind) (own : Option 
 
   module _ (exchanged : is_exchange p slot ≡ true) where
     pub after_got : (f : FrameParts)
-        → IsExchangeOf p (cycle_of p slot) i (Got f ∷ past) (met p own (brought p slot (Got f))) (having_read slot (Got f) (value i p own copies sent))
-    unfolding having_read after_meeting brought met
+        → IsExchangeOf p (cycle_of p slot) i (Got f ∷ past) (met p own (brought p slot (Got f))) (after_reading slot (Got f) (value i p own copies sent))
+    unfolding after_reading after_meeting brought met
     after_got f = rw exchanged (by_vector (vector_in p.format (cycle_of p slot) f) refl)
       where
         by_vector : (x : Option Nodes) → vector_in p.format (cycle_of p slot) f ≡ x
@@ -192,17 +192,17 @@ module _ (p : Parameters) (i slot : ℕ) (past : List NoticeKind) (own : Option 
     }
 
     pub after_sent : (f : FrameParts) → IsSentWithMore p i slot own f
-        → IsExchangeOf p (cycle_of p slot) i (Sent f ∷ past) (met p own (brought p slot (Sent f))) (having_read slot (Sent f) (value i p own copies sent))
-    unfolding having_read brought met
+        → IsExchangeOf p (cycle_of p slot) i (Sent f ∷ past) (met p own (brought p slot (Sent f))) (after_reading slot (Sent f) (value i p own copies sent))
+    unfolding after_reading brought met
     after_sent f sent_with =
         subst (IsExchangeOf p (cycle_of p slot) i (Sent f ∷ past) own) (sym (note (is_own_vector slot f (value i p own copies sent)))) (sent_some f sent_with)
 
     -- ---- any notice
 
-    pub after_reading : (notice : NoticeKind) → IsReadableVector p i slot own notice
-        → IsExchangeOf p (cycle_of p slot) i (notice ∷ past) (met p own (brought p slot notice)) (having_read slot notice (value i p own copies sent))
-    unfolding having_read brought met
-    after_reading Idle readable = nothing_read Idle (no_more Idle None refl) (λ v. refl) (λ v. refl)
-    after_reading Bad readable = nothing_read Bad (no_more Bad None refl) (λ v. refl) (λ v. refl)
-    after_reading (Got f) readable = after_got f
-    after_reading (Sent f) readable = after_sent f readable.1
+    pub exchange_after_reading : (notice : NoticeKind) → IsReadableVector p i slot own notice
+        → IsExchangeOf p (cycle_of p slot) i (notice ∷ past) (met p own (brought p slot notice)) (after_reading slot notice (value i p own copies sent))
+    unfolding after_reading brought met
+    exchange_after_reading Idle readable = nothing_read Idle (no_more Idle None refl) (λ v. refl) (λ v. refl)
+    exchange_after_reading Bad readable = nothing_read Bad (no_more Bad None refl) (λ v. refl) (λ v. refl)
+    exchange_after_reading (Got f) readable = after_got f
+    exchange_after_reading (Sent f) readable = after_sent f readable.1

@@ -15,10 +15,10 @@ use Rattle.cany_base.specs.Cycles.{cycle_of, is_end, is_exchange, is_start}
 use Rattle.cany_model.proofs.Rules.NumberFacts.{belongs_small}
 use Rattle.cany_history.specs.declared.ended.Ended.{Ended}
 use Rattle.cany_history.specs.History.{HasNoVector, HistoryParts, IsExchangeOf, IsHistoryOf, IsNextAt, StartsWith}
-use Rattle.cany_history.specs.HistorySteps.{IsInRun, having_ended, having_read, after_starting}
+use Rattle.cany_history.specs.HistorySteps.{IsInRun, after_ending, after_reading, after_starting}
 use Rattle.cany_history.proofs.CycleFacts.{exchanged_before, first_slot, has_cycles, no_end, same_cycle}
 use Rattle.cany_history.proofs.PastFacts.{early_notice, unread_copies, unread_more, unread_own}
-use Rattle.cany_history.proofs.ReadFacts.{IsRead, after_reading, read_is, value}
+use Rattle.cany_history.proofs.ReadFacts.{IsRead, exchange_after_reading, read_is, value}
 use Rattle.cany_history.proofs.MetFacts.{met_with_below}
 
 -- ---- the end and the start of a cycle, whether it is one or not
@@ -88,7 +88,7 @@ module _ (scenario : ScenarioParts) (i : ℕ) (past : List NoticeKind) (own : Op
 
   -- ---- after the notice
 
-  module _ (read : HistoryParts) (reads : read ≡ having_read notice.slot notice.kind v) where
+  module _ (read : HistoryParts) (reads : read ≡ after_reading notice.slot notice.kind v) where
     read_parts : IsRead v.params v.vector (brought v.params notice.slot notice.kind) v read
     read_parts = rw reads (read_is notice.slot notice.kind v)
 
@@ -109,7 +109,7 @@ module _ (scenario : ScenarioParts) (i : ℕ) (past : List NoticeKind) (own : Op
 
     -- ---- after the end of a cycle
 
-    module _ (end : HistoryParts) (ends : end ≡ having_ended notice.slot read) where
+    module _ (end : HistoryParts) (ends : end ≡ after_ending notice.slot read) where
       end_is : end ≡ record read { vector = if is_end read.params notice.slot then None else read.vector }
       end_is = ends ∙ ended_if (is_end read.params notice.slot) read
 
@@ -220,15 +220,15 @@ module _ (scenario : ScenarioParts) (i : ℕ) (past : List NoticeKind) (own : Op
             let before = exchanged_before scenario.params cycles (length past) exchanged none in
             let old = same_counts scenario.params (cycle_of scenario.params (length past)) i past own v (value i scenario.params own v.copies v.sent) refl refl (h.exchange before) in
             let readable : IsReadableVector scenario.params i (length past) own notice.kind = rw next.next.slot at next.vector in
-            let new = after_reading scenario.params i (length past) past own v.copies v.sent old before notice.kind readable in
-            let reads_it : read ≡ having_read (length past) notice.kind (value i scenario.params own v.copies v.sent) =
-            reads ∙ ap (λ k. having_read k notice.kind v) next.next.slot ∙ ap (having_read (length past) notice.kind) whole in
+            let new = exchange_after_reading scenario.params i (length past) past own v.copies v.sent old before notice.kind readable in
+            let reads_it : read ≡ after_reading (length past) notice.kind (value i scenario.params own v.copies v.sent) =
+            reads ∙ ap (λ k. after_reading k notice.kind v) next.next.slot ∙ ap (after_reading (length past) notice.kind) whole in
             let none_too : is_start scenario.params notice.slot ≡ false = rw next.next.slot none in
             let copies : after.copies ≡ read.copies = after_copies ∙ rw none_too refl in
             let sent : after.sent ≡ read.sent = after_sent ∙ rw none_too refl in
             let counted = same_counts scenario.params (cycle_of scenario.params (length past)) i (notice.kind ∷ past)
             (met scenario.params own (brought scenario.params (length past) notice.kind))
-            (having_read (length past) notice.kind (value i scenario.params own v.copies v.sent)) after
+            (after_reading (length past) notice.kind (value i scenario.params own v.copies v.sent)) after
             (sym (copies ∙ ap (λ (x : HistoryParts). x.copies) reads_it)) (sym (sent ∙ ap (λ (x : HistoryParts). x.sent) reads_it)) new in
             subst (λ k. IsExchangeOf scenario.params k i (notice.kind ∷ past) (met scenario.params own (brought scenario.params (length past) notice.kind)) after)
             (sym (same_cycle scenario.params cycles (length past) exchanged)) counted

@@ -57,14 +57,14 @@ is_just_own (Some own) read = is_just own read
 abbrev pub is_own_vector : ℕ → FrameParts → HistoryParts → Bool
 is_own_vector slot f v = f.node == v.node && is_just_own v.vector (vector_in v.params.format (cycle_of v.params slot) f)
 
-abbrev pub having_sent : ℕ → FrameParts → HistoryParts → HistoryParts
-having_sent slot f v = if is_own_vector slot f v then record v { sent = true } else v
+abbrev pub after_sending : ℕ → FrameParts → HistoryParts → HistoryParts
+after_sending slot f v = if is_own_vector slot f v then record v { sent = true } else v
 
-unfoldable pub having_read : ℕ → NoticeKind → HistoryParts → HistoryParts
-having_read slot Idle v = v
-having_read slot (Got f) v = after_meeting (brought v.params slot (Got f)) v
-having_read slot (Sent f) v = having_sent slot f v
-having_read slot Bad v = v
+unfoldable pub after_reading : ℕ → NoticeKind → HistoryParts → HistoryParts
+after_reading slot Idle v = v
+after_reading slot (Got f) v = after_meeting (brought v.params slot (Got f)) v
+after_reading slot (Sent f) v = after_sending slot f v
+after_reading slot Bad v = v
 
 -- the node has sent its vector, or got more copies of it than there may be omissions
 abbrev pub is_covered_by : HistoryParts → Bool
@@ -86,8 +86,8 @@ read_actions slot notice v = brought_actions slot (brought v.params slot notice)
 
 -- ---- the end of a cycle
 
-abbrev pub having_ended : ℕ → HistoryParts → HistoryParts
-having_ended slot v = if is_end v.params slot then record v { vector = None } else v
+abbrev pub after_ending : ℕ → HistoryParts → HistoryParts
+after_ending slot v = if is_end v.params slot then record v { vector = None } else v
 
 unfoldable pub end_actions : ℕ → HistoryParts → Option Nodes → List Action
 end_actions slot v None = []

@@ -5,7 +5,7 @@ ghost use Rattle.cany_base.specs.Limits.{most_nodes, most_slots};
 ghost use Rattle.cany_base.specs.Nodes.{AllBelow, Nodes};
 ghost use Rattle.cany_base.specs.Scenario.{ScenarioParts};
 ghost use Rattle.cany_history.specs.History.{HistoryParts, CanRead, IsHistoryOf, IsNextAt, Rests, StartsWith};
-ghost use Rattle.cany_history.specs.HistorySteps.{IsInRun, end_actions, frame_at, got_actions, having_ended, having_read, after_starting, is_covered_by, is_own_vector, met_by, is_just_own, read_actions, start_actions, with_vector, withdrawal_at};
+ghost use Rattle.cany_history.specs.HistorySteps.{IsInRun, end_actions, frame_at, got_actions, after_ending, after_reading, after_starting, is_covered_by, is_own_vector, met_by, is_just_own, read_actions, start_actions, with_vector, withdrawal_at};
 ghost use Rattle.cany_model.specs.Rules.Actions.{actions_of};
 ghost use Rattle.cany_model.specs.Rules.Vectors.{after_exchange, brought, ended, everybody, exchange_at, is_new, met, met_with, vector_in};
 ghost use Rattle.cany_base.specs.Cycles.{cycle_of};
@@ -113,13 +113,13 @@ impl History {
     }
 
     /// A vector of the cycle from another node, or the node's own transmission of its present one.
-    #[tactic(auto, unfolding(crate::specs::HistorySteps::having_read, crate::specs::HistorySteps::after_meeting, crate::specs::HistorySteps::brought_actions, cany_model::specs::Rules::Vectors::brought))]
+    #[tactic(auto, unfolding(crate::specs::HistorySteps::after_reading, crate::specs::HistorySteps::after_meeting, crate::specs::HistorySteps::brought_actions, cany_model::specs::Rules::Vectors::brought))]
     fn read(&mut self, notice: &Notice, out: &mut Actions)
         requires run { IsInRun notice.now.slot self.old }
         requires below { IfSome self.old.vector (AllBelow self.old.params.nodes) }
         requires few { self.old.copies < most_slots }
         requires room { length out.old.items < out.old.room }
-        ensures state { self.new ≡ having_read notice.now.slot notice.now.kind self.old }
+        ensures state { self.new ≡ after_reading notice.now.slot notice.now.kind self.old }
         ensures actions { out.new.items ≡ out.old.items ++ read_actions notice.now.slot notice.now.kind self.old }
         ensures few { length out.new.items ≤ length out.old.items + 1 }
         ensures room { out.new.room ≡ out.old.room }
@@ -148,7 +148,7 @@ impl History {
         requires room { length out.old.items < out.old.room }
         ensures ended { result ≡ option_map (λ v. record { cycle = cycle_of self.old.params slot; vector = v })
             (ended self.old.params slot self.old.vector) }
-        ensures state { self.new ≡ having_ended slot self.old }
+        ensures state { self.new ≡ after_ending slot self.old }
         ensures actions { out.new.items ≡ out.old.items ++ end_actions slot self.old (ended self.old.params slot self.old.vector) }
         ensures few { length out.new.items ≤ length out.old.items + 1 }
         ensures room { out.new.room ≡ out.old.room }

@@ -10,7 +10,7 @@ use Rattle.cany_base.specs.Nodes.{Nodes, has, those_where, minus, plus}
 use Rattle.cany_base.specs.Params.{Parameters}
 use Rattle.cany_base.specs.Scenario.{ScenarioParts}
 use Rattle.cany_model.specs.Bus.Frames.{same_class}
-use Rattle.cany_model.specs.Rules.Knowledge.{shows_life}
+use Rattle.cany_model.specs.Rules.Knowledge.{hears_life, shows_life}
 use Rattle.cany_model.specs.Rules.KnowledgeOf.{knowledge_of}
 use Rattle.cany_model.specs.Rules.Vectors.{everybody, vector_in}
 
@@ -82,12 +82,6 @@ installed_in scenario i (notice ∷ older) =
     if is_end scenario.params (length older) then vector_of_cycle scenario i (cycle_of scenario.params (length older)) (notice ∷ older) else None
 
 -- ---- tests of the newest slot
-
-abbrev pub hears_life : ℕ → NoticeKind → Bool
-hears_life r Idle = false
-hears_life r (Got f) = shows_life f && r == f.node
-hears_life r (Sent f) = false
-hears_life r Bad = false
 
 abbrev pub hears_itself : ℕ → NoticeKind → Bool
 hears_itself i Idle = false

@@ -5,7 +5,7 @@ use Rattle.cany_base.specs.declared.rule.Verdict.TheVariants.{Clean}
 use Rattle.cany_base.specs.Nodes.{Nodes}
 use Rattle.cany_base.specs.Scenario.{ScenarioParts}
 use Rattle.cany_model.specs.Bus.State.{RunState, node_at}
-use Rattle.cany_laws.specs.Detection.{hears_life}
+use Rattle.cany_model.specs.Rules.Knowledge.{hears_life}
 use Rattle.cany_laws.specs.Logs.{past_to, present_of}
 use Rattle.cany_laws.specs.Membership.{members_as}
 use Rattle.cany_laws.specs.Removal.{got_join}

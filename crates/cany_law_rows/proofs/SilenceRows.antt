@@ -4,7 +4,7 @@ use Rattle.std.specs.List.{list_any}
 use Rattle.cany_base.specs.declared.log_entry.LogEntry.TheVariants.{Failed, View}
 use Rattle.cany_base.specs.declared.rule.Verdict.TheVariants.{Clean, Lost, Partial}
 use Rattle.cany_base.specs.Scenario.{ScenarioParts}
-use Rattle.cany_laws.specs.Detection.{hears_life}
+use Rattle.cany_model.specs.Rules.Knowledge.{hears_life}
 use Rattle.cany_laws.specs.Logs.{past_to, present_of}
 use Rattle.cany_base.specs.Nodes.{Nodes}
 use Rattle.cany_model.specs.Bus.State.{EndedIncarnation, RunState}

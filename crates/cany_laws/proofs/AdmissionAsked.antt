@@ -16,7 +16,8 @@ use Rattle.cany_model.proofs.Promises.Diffusion.{past_of}
 use Rattle.cany_model.proofs.Promises.EachNode.{IsNodes, each_running}
 use Rattle.cany_model.proofs.Rules.ProtocolFacts.{MayAsk}
 use Rattle.cany_model.proofs.Rules.TurnFacts.{turn_only}
-use Rattle.cany_model.proofs.Runs.Waits.{Each-after, Each-kept}
+use Rattle.cany_model.proofs.Rules.Waits.{Each-after}
+use Rattle.cany_model.proofs.Runs.Steps.{Each-kept}
 
 -- the frame was asked for in a turn, the last of those without so many of the newest
 pub record WasAsked (scenario : ScenarioParts) (i : ℕ) (past : List NoticeKind) (f : FrameParts) : Type 0 where

@@ -28,7 +28,7 @@ use Rattle.cany_model.proofs.Timed.Views.SameView.{end_of}
 use Rattle.cany_model.proofs.Timed.Views.StartViews.{front_split}
 use Rattle.cany_laws.specs.Logs.{IsIncarnation}
 use Rattle.cany_laws.proofs.EqualMembers.{first_read, first_read-more, next_read}
-use Rattle.cany_laws.proofs.Fronts.{along_pushes, drop-map, pushed}
+use Rattle.cany_laws.proofs.KeptAlongJournal.{along_pushes, drop-map, pushed}
 use Rattle.cany_laws.proofs.Lives.{Lived, lived}
 use Rattle.cany_model.proofs.Timed.Detector.HeardWithin.{heard_kept}
 

@@ -20,7 +20,7 @@ use Rattle.cany_model.proofs.Runs.Runs.{orderly}
 use Rattle.cany_model.proofs.Runs.Steps.{MayTurn, after_slot-present, after_slot-trace, after_turn-present}
 use Rattle.cany_laws.specs.Logs.{IsIncarnation}
 use Rattle.cany_laws.proofs.EqualMembers.{first_read}
-use Rattle.cany_laws.proofs.Fronts.{after_slot-ended, after_turn-ended, drop-map, IsKeptOn, kept_on}
+use Rattle.cany_laws.proofs.KeptAlongJournal.{after_slot-ended, after_turn-ended, drop-map, IsKeptOn, kept_on}
 use Rattle.cany_laws.proofs.Lives.{lived}
 use Rattle.cany_model.proofs.Timed.Views.StartViews.{front_split}
 

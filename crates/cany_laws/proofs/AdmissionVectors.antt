@@ -47,7 +47,7 @@ use Rattle.cany_model.proofs.Timed.Views.VectorTurns.{turn_ends, turn_exchanges}
 use Rattle.cany_laws.specs.Logs.{IsIncarnation}
 use Rattle.cany_laws.specs.Views.{installed_as}
 use Rattle.cany_laws.proofs.AdmissionAsked.{WasAsked, waits_asked}
-use Rattle.cany_laws.proofs.Fronts.{along_pushes, pushed}
+use Rattle.cany_laws.proofs.KeptAlongJournal.{along_pushes, pushed}
 use Rattle.cany_laws.proofs.Lives.{lived}
 
 -- what a notice of a slot up to the end of cycle k brings says so of node r

@@ -28,7 +28,7 @@ use Rattle.cany_laws.specs.Logs.{IsIncarnation, followed_by, log_as, past_of, pr
 use Rattle.cany_laws.proofs.AlarmSigns.{unsigned_or_stopped}
 use Rattle.cany_laws.proofs.EachView.{past_length}
 use Rattle.cany_laws.proofs.EqualMembers.{first_read}
-use Rattle.cany_laws.proofs.Fronts.{after_slot-ended, after_turn-ended, kept_always}
+use Rattle.cany_laws.proofs.KeptAlongJournal.{after_slot-ended, after_turn-ended, kept_always}
 use Rattle.cany_laws.proofs.IntegralLogs.{sent_as}
 use Rattle.cany_laws.proofs.Lives.{lived}
 

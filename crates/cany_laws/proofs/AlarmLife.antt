@@ -25,7 +25,7 @@ use Rattle.cany_laws.specs.Views.{installed_as}
 use Rattle.cany_laws.proofs.AlarmNotices.{hears, note_in, own_is, plain_after, plain_original}
 use Rattle.cany_laws.proofs.EachView.{view_read}
 use Rattle.cany_laws.proofs.EqualMembers.{ended_as, ended_installs, ended_none, first_read, first_read-length, first_read-more, first_read-none, members_more, next_read, one_membership}
-use Rattle.cany_laws.proofs.Fronts.{drop-map}
+use Rattle.cany_laws.proofs.KeptAlongJournal.{drop-map}
 use Rattle.cany_laws.proofs.Lives.{Lived, lived}
 use Rattle.cany_laws.proofs.Since.{begins}
 

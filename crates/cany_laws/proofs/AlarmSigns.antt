@@ -35,13 +35,13 @@ use Rattle.cany_model.proofs.Promises.DiffusionRun.{run_diffuses}
 use Rattle.cany_model.proofs.Promises.SignAgrees.{sign_duty, sign_is_diffused}
 use Rattle.cany_model.proofs.Rules.KnowledgeFacts.{HasTimedOut, timed_out}
 use Rattle.cany_model.proofs.Runs.Runs.{orderly}
-use Rattle.cany_model.proofs.Runs.Waits.{waits-from_with}
+use Rattle.cany_model.proofs.Rules.Waits.{waits-from_with}
 use Rattle.cany_model.proofs.Runs.SlotStates.{slot_has_state, slot_state-trace, slot_state_is}
 use Rattle.cany_model.proofs.Timed.Common.KnowledgeAges.{learnt_members, learnt_shown}
 use Rattle.cany_model.proofs.Timed.Detector.Accuracy.{HearsNone, IsUnsigned, found_failed, found_other, next_unsigned, told_other, unsigned_first}
 use Rattle.cany_model.proofs.Timed.Guarantees.{slots_are_quiet}
 use Rattle.cany_laws.specs.Logs.{IsIncarnation, followed_by}
-use Rattle.cany_laws.proofs.AlarmGap.{gap, goes_on, quiet_front, went}
+use Rattle.cany_laws.proofs.LongestUnheard.{gap, goes_on, quiet_front, went}
 use Rattle.cany_laws.proofs.AlarmLife.{known_at, known_more}
 use Rattle.cany_laws.proofs.AlarmNotices.{next_is, note_in, note_older}
 use Rattle.cany_laws.proofs.AlarmStops.{StoppedBefore, runs_or_stopped, stays_among}

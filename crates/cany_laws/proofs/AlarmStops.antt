@@ -19,7 +19,7 @@ use Rattle.cany_model.proofs.Runs.Journals.{reads_other, reads_slot, reads_turn,
 use Rattle.cany_model.proofs.Runs.Runs.{orderly}
 use Rattle.cany_model.proofs.Runs.Steps.{MayTurn, after_slot-node, after_slot-present, after_slot-trace, after_turn-other, after_turn-present, after_turn-runs, after_turn-trace, stopped_after_slot}
 use Rattle.cany_laws.specs.Logs.{present_of}
-use Rattle.cany_laws.proofs.Fronts.{after_slot-ended, after_turn-ended, along_pushes, pushed, IsKeptOn, kept_on}
+use Rattle.cany_laws.proofs.KeptAlongJournal.{after_slot-ended, after_turn-ended, along_pushes, pushed, IsKeptOn, kept_on}
 
 -- the same incarnation, later
 pub record Grows (e f : EndedIncarnation) : Type 0 where

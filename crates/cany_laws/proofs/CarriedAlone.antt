@@ -32,10 +32,10 @@ use Rattle.cany_model.proofs.Bus.States.{node_at-opening}
 use Rattle.cany_model.proofs.Promises.Diffusion.{copies_got}
 use Rattle.cany_model.proofs.Runs.Runs.{IsOrderly, along_run, opening_within}
 use Rattle.cany_model.proofs.Runs.Steps.{MayTurn, after_slot-trace, after_slot-waiting, after_turn-node, after_turn-other, after_turn-trace, next_notice, running_before_slot}
-use Rattle.cany_model.proofs.Runs.Waits.{waits-from_with}
+use Rattle.cany_model.proofs.Rules.Waits.{waits-from_with}
 use Rattle.cany_model.proofs.Timed.Common.Ages.{Sends, carries_clean, gave_none}
 use Rattle.cany_model.proofs.Timed.Common.Counting.{at_most_1}
-use Rattle.cany_model.proofs.Timed.Common.LastEffect.{AsksFor, word_asks}
+use Rattle.cany_model.proofs.Timed.Common.LastEffect.{AsksFor, last_effect_asks}
 use Rattle.cany_model.proofs.Timed.Order.TotEffects.{asked_then, got_after_place}
 use Rattle.cany_model.proofs.Timed.Order.TotKept.{NoSilent}
 use Rattle.cany_model.proofs.Timed.Order.TotRun.{tot_kept}
@@ -137,7 +137,7 @@ module _ (scenario : ScenarioParts) (none : scenario.params.omit ≡ 0) (key : M
               | inl sent ↦ sent.1
               | inr got ↦
                   absurd (not_got scenario.params i (accept_of_key key) asks.0.0 (next_notice s i) (history i s) none got.0
-                  (word_asks (accept_of_key key) asks.0.0 (accept_effects scenario.params i (next_notice s i) (history i s)) asks.0.1))
+                  (last_effect_asks (accept_of_key key) asks.0.0 (accept_effects scenario.params i (next_notice s i) (history i s)) asks.0.1))
             ]
           ]
 

@@ -23,7 +23,7 @@ use Rattle.cany_model.proofs.Rules.TurnFacts.{turn_only}
 use Rattle.cany_model.proofs.Runs.FrameInvariants.{HoldsOfFrames, OfCarried, OfWaiting, frames_alone, turn_note}
 use Rattle.cany_model.proofs.Runs.Runs.{IsOrderly}
 use Rattle.cany_model.proofs.Runs.Steps.{MayTurn, next_notice}
-use Rattle.cany_model.proofs.Runs.Waits.{AsksOnly}
+use Rattle.cany_model.proofs.Rules.Waits.{AsksOnly}
 
 abbrev pub is_bare_class : Class → Bool
 is_bare_class c = same_class c class.Fda || same_class c class.Accept

@@ -29,7 +29,7 @@ use Rattle.cany_model.proofs.Rules.MessageKeys.{IsOneOf, same_message}
 use Rattle.cany_model.proofs.Rules.SendFacts.{is_sent_in-true, sendable_one}
 use Rattle.cany_model.proofs.Runs.Runs.{IsOrderly, history-length}
 use Rattle.cany_model.proofs.Runs.Steps.{MayTurn, after_slot-trace, after_slot-unread, after_turn-node, after_turn-other, after_turn-trace, next_notice}
-use Rattle.cany_model.proofs.Runs.Waits.{Asks}
+use Rattle.cany_model.proofs.Rules.Waits.{Asks}
 use Rattle.cany_model.proofs.Timed.Common.SeenAges.{sends_from}
 use Rattle.cany_laws.specs.Carried.{times_clean}
 use Rattle.cany_laws.proofs.CarriedCounts.{sent_by}

@@ -23,7 +23,7 @@ use Rattle.cany_model.proofs.Timed.Detector.NoRestarts.{restarts_none}
 use Rattle.cany_model.proofs.Timed.Order.TotKept.{NoSilent, TraceKept}
 use Rattle.cany_model.proofs.Timed.Order.TotRun.{tot_kept}
 use Rattle.cany_laws.specs.Carried.{incarnations_of_first, times_clean}
-use Rattle.cany_laws.proofs.Fronts.{after_slot-ended, after_turn-ended}
+use Rattle.cany_laws.proofs.KeptAlongJournal.{after_slot-ended, after_turn-ended}
 use Rattle.cany_laws.proofs.WaitTimes.{below_is, lives}
 
 -- whether node i sent the frame in the slot

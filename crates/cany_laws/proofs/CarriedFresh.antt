@@ -26,7 +26,7 @@ use Rattle.cany_model.proofs.Promises.SignAgrees.{sign_duty, sign_is_diffused}
 use Rattle.cany_model.proofs.Rules.KnowledgeFacts.{got_is_known}
 use Rattle.cany_model.proofs.Rules.TurnFacts.{fda_cause}
 use Rattle.cany_model.proofs.Runs.Steps.{after_turn-node, next_notice}
-use Rattle.cany_model.proofs.Runs.Waits.{waits-from_after}
+use Rattle.cany_model.proofs.Rules.Waits.{waits-from_after}
 use Rattle.cany_model.proofs.Timed.Common.Ages.{Clean, NoPlace, carried_there, clean_carried, copies_after_place, gave, open_place, own_after_place, past, some_past}
 use Rattle.cany_model.proofs.Timed.Common.SeenAges.{carried_from, clean_to, sends_from}
 use Rattle.cany_model.proofs.Timed.Detector.NoRestarts.{AllOriginal, all_original, sees_all}

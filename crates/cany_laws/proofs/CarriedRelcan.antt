@@ -32,7 +32,7 @@ use Rattle.cany_model.proofs.Rules.SendFacts.{sends_are_lawful}
 use Rattle.cany_model.proofs.Rules.TotcanFacts.{totcan_is_lawful}
 use Rattle.cany_model.proofs.Rules.VectorFacts.{vectors_are_lawful}
 use Rattle.cany_model.proofs.Rules.ViewFacts.{asks_are_lawful, views_are_lawful}
-use Rattle.cany_model.proofs.Runs.Waits.{Asks}
+use Rattle.cany_model.proofs.Rules.Waits.{Asks}
 use Rattle.cany_model.proofs.Rules.TurnFacts.{not_asked}
 
 -- ---- which protocol asks

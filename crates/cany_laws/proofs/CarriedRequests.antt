@@ -23,7 +23,7 @@ use Rattle.cany_model.proofs.Rules.ProtocolFacts.{IsScripted, MayRequest, ask_of
 use Rattle.cany_model.proofs.Rules.TurnFacts.{turn_effect}
 use Rattle.cany_model.proofs.Runs.Runs.{IsOrderly, history-length}
 use Rattle.cany_model.proofs.Runs.Steps.{MayTurn, next_notice}
-use Rattle.cany_model.proofs.Runs.Waits.{Asks}
+use Rattle.cany_model.proofs.Rules.Waits.{Asks}
 use Rattle.cany_laws.specs.Requests.{CarriesFewRequests, entries_of}
 use Rattle.cany_laws.specs.Carried.{times_clean}
 use Rattle.cany_laws.proofs.CarriedCounts.{sent_by}

@@ -24,7 +24,7 @@ use Rattle.cany_model.proofs.Bus.Restarts.{after_restarts-trace, restarts_or_sta
 use Rattle.cany_model.proofs.Bus.States.{no_note, node_at-opening, note_at, runs_within}
 use Rattle.cany_model.proofs.Runs.Runs.{IsOrderly, along_run, opening_within}
 use Rattle.cany_model.proofs.Runs.Steps.{MayTurn, after_slot-trace, after_slot-waiting, after_turn-node, after_turn-other, after_turn-trace, kept_at, next_notice, running_before_slot}
-use Rattle.cany_model.proofs.Runs.Waits.{Asks, waits-from_after, waits-from_with}
+use Rattle.cany_model.proofs.Rules.Waits.{Asks, waits-from_after, waits-from_with}
 use Rattle.cany_model.proofs.Timed.Common.Ages.{carries, carries_clean, carried_there, clean_carried}
 use Rattle.cany_model.proofs.Timed.Common.Counting.{Passes}
 use Rattle.cany_model.proofs.Timed.Order.TotSlots.{carries-true}

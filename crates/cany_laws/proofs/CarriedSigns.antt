@@ -11,9 +11,9 @@ use Rattle.cany_model.specs.Bus.Frames.{same_class}
 use Rattle.cany_model.specs.Rules.Effect.{Effect}
 use Rattle.cany_model.specs.Rules.Knowledge.{FailureSign, Knowledge, after_hearing, after_learning, fda_of, found, found_in, has_timed_out, knows, same_sign, sign_in, sign_of, told, told_in}
 use Rattle.cany_model.specs.Rules.KnowledgeOf.{knowledge_of}
-use Rattle.cany_model.specs.Rules.Life.{failure_effects, failures_at, fda_copy_effects, sign_effects}
+use Rattle.cany_model.specs.Rules.Life.{failure_effects, failures_at, fda_copy_effects, failure_sign_effects}
 use Rattle.cany_model.proofs.Among.{Among, Among-append_cases, Among-from_flat_map}
-use Rattle.cany_model.proofs.Runs.Waits.{Asks}
+use Rattle.cany_model.proofs.Rules.Waits.{Asks}
 use Rattle.cany_model.proofs.Rules.KnowledgeFacts.{knows_heard, knows_with}
 use Rattle.cany_model.proofs.Rules.SignFacts.{asks_of_sign, copy_asks}
 
@@ -53,7 +53,7 @@ asked_is_new scenario i e past sign h =
     let p : Parameters = scenario.params in
     let told_now : List FailureSign = told_in i (length past) e st in
     let found_now : List FailureSign = found_in p i (length past) e st in
-    let each : FailureSign → List Effect = sign_effects p.omit (length past) (e ∷ past) in
+    let each : FailureSign → List Effect = failure_sign_effects p.omit (length past) (e ∷ past) in
     let copied : List Effect = fda_copy_effects p.omit e (e ∷ past) in
     let named : (signs : List FailureSign) → Among (λ b. Among (Asks (fda_of sign)) (each b)) signs → Among (λ b. sign ≡ b) signs =
     λ signs k. weaker signs k in
@@ -71,7 +71,7 @@ asked_is_new scenario i e past sign h =
           (sym (knows_with sign told_now (after_hearing i (length past) e st)) ∙ new)).1
     ]
   where
-    weaker : (signs : List FailureSign) → Among (λ b. Among (Asks (fda_of sign)) (sign_effects scenario.params.omit (length past) (e ∷ past) b)) signs → Among (λ b. sign ≡ b) signs
+    weaker : (signs : List FailureSign) → Among (λ b. Among (Asks (fda_of sign)) (failure_sign_effects scenario.params.omit (length past) (e ∷ past) b)) signs → Among (λ b. sign ≡ b) signs
     weaker [] k = k
     weaker (b ∷ signs) (inl k) = inl (asks_of_sign scenario.params.omit (length past) (e ∷ past) sign b k)
     weaker (b ∷ signs) (inr k) = inr (weaker signs k)

@@ -22,7 +22,7 @@ use Rattle.cany_model.proofs.Bus.States.{node_at-opening, note_at, runs_within}
 use Rattle.cany_model.proofs.Runs.Journals.{unread_within}
 use Rattle.cany_model.proofs.Runs.Runs.{opening_within}
 use Rattle.cany_model.proofs.Runs.Steps.{MayTurn, after_slot-trace, after_slot-waiting, after_turn-other, after_turn-trace, kept_at, running_before_slot}
-use Rattle.cany_model.proofs.Runs.Waits.{waits-from_with}
+use Rattle.cany_model.proofs.Rules.Waits.{waits-from_with}
 use Rattle.cany_model.proofs.Timed.Common.Ages.{Clean, carried_there, carries, carries_clean, clean_carried}
 use Rattle.cany_model.proofs.Timed.Common.Counting.{Passes, at_most_0}
 use Rattle.cany_model.proofs.Timed.Order.TotKept.{NoSilent}

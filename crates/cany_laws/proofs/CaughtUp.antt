@@ -10,7 +10,7 @@ use Rattle.cany_model.specs.Runs.Run.{after_turn, run}
 use Rattle.cany_model.proofs.Bus.States.{runs_within}
 use Rattle.cany_model.proofs.Runs.Runs.{orderly}
 use Rattle.cany_model.proofs.Runs.Steps.{MayTurn, after_turn-node, after_turn-other, after_turn-present, after_turn-runs, after_turn-trace, next_notice, node_after_turn}
-use Rattle.cany_laws.proofs.Fronts.{after_turn-ended, turn_made}
+use Rattle.cany_laws.proofs.KeptAlongJournal.{after_turn-ended, turn_made}
 
 -- some turns of node j more, after which it has read all; and the other nodes are as they were
 pub record CaughtUp (scenario : ScenarioParts) (journal : List Step) (j : ℕ) : Type 0 where

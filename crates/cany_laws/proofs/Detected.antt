@@ -11,7 +11,7 @@ use Rattle.cany_base.specs.Nodes.{has}
 use Rattle.cany_base.specs.Scenario.{ScenarioParts}
 use Rattle.cany_model.specs.Bus.History.{history}
 use Rattle.cany_model.specs.Bus.State.{EndedIncarnation, Incarnation, RunState, node_at}
-use Rattle.cany_model.specs.Rules.Knowledge.{FailureSign, Knowledge, knows, sign_in}
+use Rattle.cany_model.specs.Rules.Knowledge.{FailureSign, Knowledge, hears_life, knows, sign_in}
 use Rattle.cany_model.specs.Rules.KnowledgeOf.{knowledge_of}
 use Rattle.cany_model.specs.Rules.Notices.{IsReadable}
 use Rattle.cany_model.specs.Rules.Turn.{scenario_for}
@@ -21,7 +21,7 @@ use Rattle.cany_model.proofs.Bus.Seen.{history-is}
 use Rattle.cany_model.proofs.Timed.Detector.SilentNode.{known_begun, shown_by}
 use Rattle.cany_model.proofs.Timed.Detector.SilentNode.{failed_next}
 use Rattle.cany_model.proofs.Timed.Views.ReadableNodes.{run_readable}
-use Rattle.cany_laws.specs.Detection.{HasFailedBy, HearsNothingOf, IsDetected, hears_life}
+use Rattle.cany_laws.specs.Detection.{HasFailedBy, HearsNothingOf, IsDetected}
 use Rattle.cany_laws.specs.Logs.{followed_by, past_of, past_to}
 use Rattle.cany_laws.proofs.EqualMembers.{first_read, first_read-length, first_read-more, next_read}
 use Rattle.cany_laws.proofs.EachView.{past_length}

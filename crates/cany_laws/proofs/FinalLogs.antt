@@ -28,7 +28,7 @@ use Rattle.cany_model.proofs.Bus.States.{runs_within}
 use Rattle.cany_model.proofs.Promises.Diffusion.{past_of}
 use Rattle.cany_model.proofs.Promises.EachNode.{restarted_new}
 use Rattle.cany_model.proofs.Promises.OwnSlotsAlone.{run_numbered}
-use Rattle.cany_model.proofs.Rules.Begun.{IsBegun, begun_before}
+use Rattle.cany_model.proofs.Rules.IdleBeforeTakingPart.{IsBegun, begun_before}
 use Rattle.cany_model.proofs.Rules.LogFacts.{log_split, made_by}
 use Rattle.cany_model.proofs.Rules.MessageKeys.{IsOneOf, same_message}
 use Rattle.cany_model.proofs.Rules.MutedFacts.{turn_muted}
@@ -37,7 +37,7 @@ use Rattle.cany_model.proofs.Runs.Runs.{history-length, orderly, orderly_slot}
 use Rattle.cany_model.proofs.Runs.Steps.{MayTurn, after_slot-history, after_slot-present, after_slot-trace, after_turn-history, after_turn-other_history, after_turn-present, after_turn-runs, next_notice, running_before_slot}
 use Rattle.cany_laws.specs.Final.{IsFinal}
 use Rattle.cany_laws.specs.Logs.{IsIncarnation, log_as}
-use Rattle.cany_laws.proofs.Fronts.{along_rest, pushed}
+use Rattle.cany_laws.proofs.KeptAlongJournal.{along_rest, pushed}
 use Rattle.cany_laws.proofs.IntegralLogs.{lived_log, sent_as}
 use Rattle.cany_laws.proofs.Lives.{lived}
 use Rattle.cany_laws.proofs.NoLateDelivery.{DeliversIt, EntersNot, turn_not}

@@ -22,7 +22,7 @@ use Rattle.cany_model.specs.Runs.Run.{run}
 use Rattle.cany_model.proofs.Among.{Among, Contains-from_Among, Contains-none}
 use Rattle.cany_model.proofs.Promises.Integrity.{integral}
 use Rattle.cany_laws.specs.Logs.{EachLogIsIntegral, IsIncarnation, log_as}
-use Rattle.cany_laws.proofs.Fronts.{stands_later}
+use Rattle.cany_laws.proofs.KeptAlongJournal.{stands_later}
 use Rattle.cany_laws.proofs.Lives.{Lived, lived}
 use Rattle.cany_model.proofs.Timed.Views.StartViews.{front_split}
 

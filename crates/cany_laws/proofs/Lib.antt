@@ -5,7 +5,6 @@ pub mod AdmissionKnown
 pub mod AdmissionLives
 pub mod AdmissionTaken
 pub mod AdmissionVectors
-pub mod AlarmGap
 pub mod AlarmLaws
 pub mod AlarmLife
 pub mod AlarmNotices
@@ -30,15 +29,17 @@ pub mod DoneTurns
 pub mod EachView
 pub mod EqualMembers
 pub mod FinalLogs
-pub mod Fronts
 pub mod IntegralLogs
+pub mod KeptAlongJournal
 pub mod LeftOut
 pub mod Lives
+pub mod LongestUnheard
 pub mod NoLateDelivery
 pub mod OneSequence
 pub mod OrderLists
 pub mod OrderOfEach
 pub mod OrderReading
+pub mod RanSinceSlot
 pub mod RemovalJoiners
 pub mod RemovalMembers
 pub mod RemovalOut
@@ -57,7 +58,6 @@ pub mod WaitAsksOnce
 pub mod WaitDelivered
 pub mod WaitEd
 pub mod WaitFallBack
-pub mod WaitFronts
 pub mod WaitMessages
 pub mod WaitNodes
 pub mod WaitOrder

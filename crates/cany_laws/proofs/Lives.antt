@@ -19,7 +19,7 @@ use Rattle.cany_model.proofs.Runs.Journals.{run_none}
 use Rattle.cany_model.proofs.Runs.Runs.{orderly}
 use Rattle.cany_model.proofs.Runs.Steps.{MayTurn, after_slot-present, after_slot-trace, after_slot-unread, after_turn-other, after_turn-runs, after_turn-trace}
 use Rattle.cany_laws.specs.Logs.{IsIncarnation, present_of}
-use Rattle.cany_laws.proofs.Fronts.{after_slot-ended, after_turn-ended, along_pushes, ended_history-longer, pushed}
+use Rattle.cany_laws.proofs.KeptAlongJournal.{after_slot-ended, after_turn-ended, along_pushes, ended_history-longer, pushed}
 
 -- after a front of the journal the node ran in this incarnation, and had read what it has read in all
 pub record Lived (scenario : ScenarioParts) (journal : List Step) (i : ℕ) (e : EndedIncarnation) : Type 0 where

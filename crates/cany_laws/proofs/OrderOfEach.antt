@@ -33,7 +33,7 @@ use Rattle.cany_model.proofs.Timed.Order.TotCount.{within_silent}
 use Rattle.cany_model.proofs.Timed.Order.TotRun.{tot_kept}
 use Rattle.cany_laws.specs.Logs.{IsIncarnation, followed_by, past_of}
 use Rattle.cany_laws.specs.Order.{EachFollowsOrder, FollowsOrderAs, IsPrefixOf, deliveries_as, is_accepted_by_it_or_some}
-use Rattle.cany_laws.proofs.Fronts.{stands_later}
+use Rattle.cany_laws.proofs.KeptAlongJournal.{stands_later}
 use Rattle.cany_laws.proofs.Lives.{Lived, lived}
 use Rattle.cany_laws.proofs.OrderLists.{order_filter, order_longer, prefix_filter, prefix_more}
 use Rattle.cany_laws.proofs.OrderReading.{accepted_in_time_by_each, sees_late}

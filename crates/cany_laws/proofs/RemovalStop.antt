@@ -18,7 +18,7 @@ use Rattle.cany_model.specs.Bus.Restart.{after_restarts}
 use Rattle.cany_model.specs.Bus.Slot.{FaultScript, after_slot, script, slot_note_of}
 use Rattle.cany_model.specs.Bus.State.{EndedIncarnation, NodeState, RunState, node_at, opening, runs}
 use Rattle.cany_model.specs.Promises.Hypothesis.{IsWithin}
-use Rattle.cany_model.specs.Rules.Knowledge.{shows_life}
+use Rattle.cany_model.specs.Rules.Knowledge.{hears_life, shows_life}
 use Rattle.cany_model.specs.Runs.Run.{after_turn, run}
 use Rattle.cany_model.proofs.Among.{Contains-cons_cases, Contains-none}
 use Rattle.cany_model.proofs.Bus.Identities.{same_class-true}
@@ -31,13 +31,13 @@ use Rattle.cany_model.proofs.Runs.Journals.{run_none}
 use Rattle.cany_model.proofs.Runs.Runs.{orderly}
 use Rattle.cany_model.proofs.Runs.Steps.{MayTurn, after_slot-node, after_slot-trace, after_turn-other, after_turn-runs, after_turn-trace, stopped_after_slot}
 use Rattle.cany_model.proofs.Timed.Detector.Stopped.{IsOwn, node_after-stops, own_waits}
-use Rattle.cany_laws.specs.Detection.{IsLeftOut, hears_life}
+use Rattle.cany_laws.specs.Detection.{IsLeftOut}
 use Rattle.cany_laws.specs.Logs.{past_of, past_to}
 use Rattle.cany_laws.specs.Removal.{HadItLongBefore, HearsNoLifeOf, NobodyGotJoin, got_join}
 use Rattle.cany_laws.proofs.AdmissionHeard.{notice_is}
 use Rattle.cany_laws.proofs.EachView.{past_length}
 use Rattle.cany_laws.proofs.EqualMembers.{next_read}
-use Rattle.cany_laws.proofs.Fronts.{kept_always}
+use Rattle.cany_laws.proofs.KeptAlongJournal.{kept_always}
 use Rattle.cany_laws.proofs.Lives.{Lived, lived}
 use Rattle.cany_laws.proofs.RemovalJoiners.{note_of}
 use Rattle.cany_laws.proofs.RemovalOut.{removed}
@@ -143,7 +143,7 @@ life_heard : (r : ℕ) (e : NoticeKind) → hears_life r e ≡ true → (f : Fra
 life_heard r Idle h = absurd (false≢true h)
 life_heard r Bad h = absurd (false≢true h)
 life_heard r (Sent f) h = absurd (false≢true h)
-life_heard r (Got f) h = let parts = and_parts (shows_life f) (f.node == r) h in (f, refl, inl parts.0, eqb-true f.node r parts.1)
+life_heard r (Got f) h = let parts = and_parts (shows_life f) (r == f.node) h in (f, refl, inl parts.0, sym (eqb-true r f.node parts.1))
 
 join_got : (r : ℕ) (e : NoticeKind) → got_join r e ≡ true → (f : FrameParts) × (e ≡ Got f) × IsOwn f × (f.node ≡ r)
 join_got r Idle h = absurd (false≢true h)

@@ -21,14 +21,14 @@ use Rattle.cany_model.proofs.Rules.SignFacts.{asked_is_known}
 use Rattle.cany_model.proofs.Rules.TurnFacts.{fda_cause}
 use Rattle.cany_model.proofs.Runs.Runs.{IsOrderly}
 use Rattle.cany_model.proofs.Runs.Steps.{MayTurn, after_slot-history, after_slot-present, after_turn-history, after_turn-other, after_turn-other_history, after_turn-present, next_notice}
-use Rattle.cany_model.proofs.Runs.Waits.{Asks}
+use Rattle.cany_model.proofs.Rules.Waits.{Asks}
 use Rattle.cany_model.proofs.Timed.Order.TotKept.{NoSilent}
 use Rattle.cany_model.proofs.Timed.Order.TotRun.{tot_kept}
 use Rattle.cany_laws.specs.Carried.{incarnations_of_first, times_clean}
 use Rattle.cany_laws.proofs.CarriedCounts.{by_senders, sent_by}
 use Rattle.cany_laws.proofs.CarriedSends.{CountsAsks, sent_so_often}
 use Rattle.cany_laws.proofs.CarriedSigns.{asked_is_new}
-use Rattle.cany_laws.proofs.Fronts.{after_slot-ended, after_turn-ended}
+use Rattle.cany_laws.proofs.KeptAlongJournal.{after_slot-ended, after_turn-ended}
 use Rattle.cany_laws.proofs.WaitTimes.{below_is, lives}
 use Rattle.cany_laws.proofs.WaitTotals.{one_if_weaker, total_most}
 

@@ -5,20 +5,19 @@ use Rattle.cany_base.specs.Limits.{most_nodes}
 use Rattle.cany_base.specs.declared.notice.NoticeKind.{NoticeKind}
 use Rattle.cany_base.specs.Nodes.{has}
 use Rattle.cany_base.specs.Scenario.{ScenarioParts}
-use Rattle.cany_model.specs.Rules.Knowledge.{FailureSign, Knowledge, after_finding, after_hearing, after_learning, found_in, knows, same_sign, shows_life, sign_in, told_in}
+use Rattle.cany_model.specs.Rules.Knowledge.{FailureSign, Knowledge, after_finding, after_hearing, after_learning, found_in, hears_life, knows, same_sign, shows_life, sign_in, told_in}
 use Rattle.cany_model.specs.Rules.KnowledgeOf.{knowledge_of}
 use Rattle.cany_model.proofs.Among.{Among, Among-append_cases, Among-from_any, Among-weaker}
 use Rattle.cany_model.proofs.Rules.KnowledgeFacts.{known_after, newly, same_sign-true, tells}
 use Rattle.cany_model.proofs.Rules.KnowledgeSteps.{failed_after, is_admitted, shown_after}
 use Rattle.cany_model.proofs.Timed.Common.KnowledgeAges.{ended_at}
 use Rattle.cany_model.proofs.Timed.Detector.SilentNode.{NoLifeOf, failed_by_still, learnt_no_life, learnt_still, no_life, not_admitted, silent_found, with_signs_named}
-use Rattle.cany_laws.specs.Detection.{hears_life}
 
 -- ---- life that is not shown
 
 no_life_of : (r : ℕ) (e : NoticeKind) → hears_life r e ≡ false → NoLifeOf r e
 no_life_of r e h f is life node =
-    both_ways (hears_life r e) h (ap (hears_life r) is ∙ and_from (shows_life f) (f.node == r) life (eq-eqb f.node r node))
+    both_ways (hears_life r e) h (ap (hears_life r) is ∙ and_from (shows_life f) (r == f.node) life (eq-eqb r f.node (sym node)))
 
 -- ---- one turn, of a node that had r in its view before it
 

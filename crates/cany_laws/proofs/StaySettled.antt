@@ -38,12 +38,12 @@ use Rattle.cany_model.proofs.Promises.Sources.{IsSourced, sourced}
 use Rattle.cany_model.proofs.Rules.MessageKeys.{IsOneOf}
 use Rattle.cany_model.proofs.Rules.Protocols.{relcan_is_one, totcan_is_one}
 use Rattle.cany_model.proofs.Runs.Runs.{IsOrderly, history-length, orderly, orderly_slot}
-use Rattle.cany_model.proofs.Runs.Steps.{MayTurn, after_slot-history, after_slot-present, after_slot-trace, after_slot-unread, after_slot-waiting, after_turn-history, after_turn-node, after_turn-other, after_turn-other_history, after_turn-trace, next_notice, running_before_slot}
-use Rattle.cany_model.proofs.Runs.Waits.{Each-after, Each-kept}
+use Rattle.cany_model.proofs.Runs.Steps.{MayTurn, after_slot-history, after_slot-present, after_slot-trace, after_slot-unread, after_slot-waiting, after_turn-history, after_turn-node, after_turn-other, after_turn-other_history, after_turn-trace, next_notice, running_before_slot, Each-kept}
+use Rattle.cany_model.proofs.Rules.Waits.{Each-after}
 use Rattle.cany_model.proofs.Timed.Order.TotSlots.{waiting_frame}
 use Rattle.cany_laws.specs.Final.{is_frame_of}
 use Rattle.cany_laws.proofs.DoneTurns.{Free, FreeNotice, IsDone, IsSourcedNotice, asked_on, done_begun, done_next, turn_free}
-use Rattle.cany_laws.proofs.Fronts.{along_rest, pushed}
+use Rattle.cany_laws.proofs.KeptAlongJournal.{along_rest, pushed}
 use Rattle.cany_laws.proofs.Since.{begins_now}
 
 -- ---- one node

@@ -27,7 +27,7 @@ use Rattle.cany_model.proofs.Promises.EachNode.{each_running}
 use Rattle.cany_model.proofs.Runs.Runs.{orderly}
 use Rattle.cany_laws.specs.Alarms.{NoLeaveWasCarried, is_leave_of}
 use Rattle.cany_laws.specs.Logs.{followed_by, present_of}
-use Rattle.cany_laws.proofs.AlarmGap.{goes_on, went}
+use Rattle.cany_laws.proofs.LongestUnheard.{goes_on, went}
 use Rattle.cany_laws.proofs.AlarmLaws.{none_ended}
 use Rattle.cany_laws.proofs.AlarmNotices.{note_in}
 use Rattle.cany_laws.proofs.AlarmSigns.{carried_from}

@@ -53,7 +53,7 @@ use Rattle.cany_model.proofs.Timed.Views.VectorSlots.{cycle_of_formulas}
 use Rattle.cany_model.proofs.Timed.Views.VectorTurns.{starts_with, turn_ends, turn_exchanges, turn_starts}
 use Rattle.cany_laws.specs.Logs.{IsIncarnation, followed_by}
 use Rattle.cany_laws.specs.Views.{installed_as}
-use Rattle.cany_laws.proofs.AlarmGap.{goes_on, went}
+use Rattle.cany_laws.proofs.LongestUnheard.{goes_on, went}
 use Rattle.cany_laws.proofs.AlarmLife.{first_read-is, known_at, known_more}
 use Rattle.cany_laws.proofs.AlarmNotices.{next_is, note_in}
 use Rattle.cany_laws.proofs.AlarmSigns.{StoppedFor, carried_from, found_lives}

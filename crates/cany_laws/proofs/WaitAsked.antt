@@ -27,7 +27,7 @@ use Rattle.cany_model.proofs.Promises.EachNode.{EachRunning, IsNew, blank_heard,
 use Rattle.cany_model.proofs.Rules.MessageKeys.{IsOneOf}
 use Rattle.cany_model.proofs.Rules.ProtocolFacts.{IsFounded, MayWithdraw, answered, closes, data_is_no_other, enough, enough_accept, settles}
 use Rattle.cany_model.proofs.Rules.TurnFacts.{turn_effect}
-use Rattle.cany_model.proofs.Runs.Waits.{Asks, Withdraws, waits-without, waits_after}
+use Rattle.cany_model.proofs.Rules.Waits.{Asks, Withdraws, waits-without, waits_after}
 use Rattle.cany_model.proofs.Timed.Order.TotSettled.{asks_true, has_started, turn_of_origin}
 
 -- ---- what a turn asks for and withdraws

@@ -26,7 +26,7 @@ use Rattle.cany_model.proofs.Rules.MessageKeys.{IsOneOf}
 use Rattle.cany_model.proofs.Rules.ProtocolFacts.{IsLawful, asks_named}
 use Rattle.cany_model.proofs.Rules.Protocols.{are_lawful}
 use Rattle.cany_model.proofs.Rules.SendFacts.{is_sent_in-true, sendable_one, sent_of}
-use Rattle.cany_model.proofs.Runs.Waits.{Asks}
+use Rattle.cany_model.proofs.Rules.Waits.{Asks}
 
 -- the newest notice brought the first copy, and the node has not read an own transmission of the frame
 pub record AtFirstCopy (x : Identity) (e : NoticeKind) (past : List NoticeKind) : Type 0 where

@@ -5,7 +5,7 @@ use Rattle.std.specs.Prelude.{Some}
 use Rattle.std.proofs.Math.Seq.{drop-append_seam}
 use Rattle.std.proofs.lemmas.Bool.{and_from, cases_Bool, eq-eqb, false≢true, or_left, or_right}
 use Rattle.std.proofs.lemmas.List.{get_or-append-add, get_or_default}
-use Rattle.cany_laws.proofs.Fronts.{drop-map}
+use Rattle.cany_laws.proofs.KeptAlongJournal.{drop-map}
 use Rattle.cany_base.specs.declared.class.Class.TheVariants as class
 use Rattle.cany_base.specs.declared.log_entry.LogEntry.{LogEntry}
 use Rattle.cany_base.specs.declared.log_entry.LogEntry.TheVariants.{Deliver}
@@ -57,11 +57,11 @@ use Rattle.cany_model.proofs.Rules.TurnFacts.{turn_cause_data}
 use Rattle.cany_model.proofs.Runs.FrameInvariants.{history_note}
 use Rattle.cany_model.proofs.Runs.Runs.{history-length, orderly}
 use Rattle.cany_model.proofs.Runs.SlotStates.{slot_has_state, slot_state-trace, slot_state_is}
-use Rattle.cany_model.proofs.Runs.Waits.{waits-from_after}
+use Rattle.cany_model.proofs.Rules.Waits.{waits-from_after}
 use Rattle.cany_laws.specs.Waits.{HasDeliveredBy, WasCarriedIn}
 use Rattle.cany_laws.proofs.FinalLogs.{entry_read}
 use Rattle.cany_laws.proofs.Since.{begins_now}
-use Rattle.cany_laws.proofs.WaitFronts.{ran_in, read_to}
+use Rattle.cany_laws.proofs.RanSinceSlot.{ran_in, read_to}
 use Rattle.cany_laws.proofs.WaitNodes.{kept_waits}
 use Rattle.cany_model.proofs.Promises.Agrees.{data_is_heard}
 

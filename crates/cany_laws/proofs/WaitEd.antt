@@ -37,7 +37,7 @@ use Rattle.cany_laws.proofs.WaitAsksOnce.{AtFirstCopy, AtItsSlot}
 use Rattle.cany_laws.proofs.WaitNodes.{IsSame, has_sent, kept_waits, new_lives, same_after_turn, same_history, sent_waits, slot_lives, turn_lives}
 use Rattle.cany_laws.proofs.WaitTimes.{IsLeft, few_times, lives}
 use Rattle.cany_laws.proofs.WaitTotals.{one_if_false, one_if_true, one_if_weaker, total_most}
-use Rattle.cany_laws.proofs.Fronts.{drop-map}
+use Rattle.cany_laws.proofs.KeptAlongJournal.{drop-map}
 use Rattle.cany_laws.proofs.WaitOwnFirst.{EachAskedOnce, IsOwnFirst, all_of, asked_once, own_all, own_first_drop, same_all, slot_is_unsent, turn_all}
 use Rattle.cany_laws.proofs.WaitUnsent.{IsReadOrUnsent, IsUnsent, copies_carried, read_or_unsent, waited_or_asked}
 

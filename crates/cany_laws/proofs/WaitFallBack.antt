@@ -19,7 +19,7 @@ use Rattle.cany_model.specs.Rules.Relcan.{confirm_effects, confirm_frame, fall_b
 use Rattle.cany_model.specs.Rules.Turn.{turn_effects}
 use Rattle.cany_model.proofs.Among.{Among, Among-append_cases}
 use Rattle.cany_model.proofs.Rules.MessageKeys.{IsOneOf}
-use Rattle.cany_model.proofs.Runs.Waits.{Asks}
+use Rattle.cany_model.proofs.Rules.Waits.{Asks}
 use Rattle.cany_laws.proofs.WaitAsksOnce.{AtItsSlot, asked_why, no_delivery, sends_in_slot}
 use Rattle.cany_laws.proofs.CarriedRelcan.{no_late}
 

@@ -22,9 +22,10 @@ use Rattle.cany_model.specs.Rules.Turn.{has_asked, scenario_at, scenario_for}
 use Rattle.cany_model.specs.Runs.Run.{is_done, reply, run}
 use Rattle.cany_model.proofs.Among.{Among, Among-drop, Among-from_Contains, Among-from_any, Among-place, Among-weaker, Each-weaker, any-from_Among}
 use Rattle.cany_model.proofs.Bus.Carried.{CarriesClean, is_carried}
-use Rattle.cany_model.proofs.Bus.Counting.{Accepts, clean_from_copies, clean_from_success}
+use Rattle.cany_model.proofs.Promises.CleanSlots.{Accepts, clean_from_copies, clean_from_success}
 use Rattle.cany_model.proofs.Bus.Identities.{same_identity-from}
-use Rattle.cany_model.proofs.Bus.Seen.{history-is, within_seen}
+use Rattle.cany_model.proofs.Bus.Seen.{history-is}
+use Rattle.cany_model.proofs.Promises.WithinSeen.{within_seen}
 use Rattle.cany_model.proofs.Bus.States.{no_note}
 use Rattle.cany_model.proofs.Promises.Agreement.{seen_clean}
 use Rattle.cany_model.proofs.Promises.Diffusion.{Heard}
@@ -36,7 +37,7 @@ use Rattle.cany_model.proofs.Timed.Windows.QuietSlots.{front_trace, within_dropp
 use Rattle.cany_laws.specs.Waits.{HasAskedBy, IsAwaitedThrough, WasAwaited, WasCarriedIn, least_left, interference, waits_since, window}
 use Rattle.cany_laws.proofs.Since.{begins_now}
 use Rattle.cany_laws.proofs.WaitAsked.{WaitsOrGone, asked_since, keeps_asked}
-use Rattle.cany_laws.proofs.WaitFronts.{ran_in, same_to}
+use Rattle.cany_laws.proofs.RanSinceSlot.{ran_in, same_to}
 use Rattle.cany_laws.proofs.WaitSlots.{carried_at, carried_in_windows, is_clean_frame}
 use Rattle.cany_model.proofs.Timed.Views.StartViews.{front_split}
 

@@ -20,8 +20,8 @@ use Rattle.cany_model.proofs.Bus.Restarts.{Restarts, after_restarts-trace}
 use Rattle.cany_model.proofs.Bus.Seen.{history-is}
 use Rattle.cany_model.proofs.Runs.Runs.{IsOrderly}
 use Rattle.cany_model.proofs.Runs.Steps.{MayTurn, after_slot-trace, after_slot-unread, after_slot-waiting, after_turn-node, after_turn-other, after_turn-trace, kept_at}
-use Rattle.cany_model.proofs.Runs.Waits.{waits-from_without}
-use Rattle.cany_laws.proofs.Fronts.{after_slot-ended, after_turn-ended}
+use Rattle.cany_model.proofs.Rules.Waits.{waits-from_without}
+use Rattle.cany_laws.proofs.KeptAlongJournal.{after_slot-ended, after_turn-ended}
 use Rattle.cany_laws.proofs.WaitTimes.{lives}
 use Rattle.cany_model.proofs.Timed.Order.TotSlots.{clean_success}
 

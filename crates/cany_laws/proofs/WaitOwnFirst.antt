@@ -49,7 +49,7 @@ use Rattle.cany_model.proofs.Rules.MessageKeys.{same_message}
 use Rattle.cany_model.proofs.Rules.ProtocolFacts.{is_data}
 use Rattle.cany_model.proofs.Runs.Journals.{run_none}
 use Rattle.cany_model.proofs.Runs.Runs.{orderly, orderly_slot}
-use Rattle.cany_laws.proofs.Fronts.{kept_always}
+use Rattle.cany_laws.proofs.KeptAlongJournal.{kept_always}
 use Rattle.cany_laws.proofs.WaitUnsent.{IsReadOrUnsent, IsUnsent, read_or_unsent, waited_or_asked}
 use Rattle.cany_model.proofs.Timed.Order.TotSlots.{waiting_frame}
 

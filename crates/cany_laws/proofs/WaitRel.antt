@@ -25,7 +25,7 @@ use Rattle.cany_model.proofs.Bus.States.{node_at-opening, runs_within}
 use Rattle.cany_model.proofs.Rules.MessageKeys.{IsOneOf}
 use Rattle.cany_model.proofs.Runs.Runs.{IsOrderly, history-length}
 use Rattle.cany_model.proofs.Runs.Steps.{MayTurn, after_slot-history, after_slot-waiting, after_turn-history, after_turn-node, next_notice, running_before_slot}
-use Rattle.cany_model.proofs.Runs.Waits.{waits-from_after}
+use Rattle.cany_model.proofs.Rules.Waits.{waits-from_after}
 use Rattle.cany_model.proofs.Timed.Common.Counting.{total}
 use Rattle.cany_laws.specs.Carried.{incarnations_of_first, times_clean}
 use Rattle.cany_laws.proofs.WaitAsksOnce.{AtItsSlot}

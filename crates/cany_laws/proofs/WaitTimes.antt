@@ -23,7 +23,7 @@ use Rattle.cany_model.proofs.Runs.Journals.{run_none}
 use Rattle.cany_model.proofs.Runs.Steps.{MayTurn, after_slot-trace, after_turn-trace}
 use Rattle.cany_model.proofs.Timed.Common.Counting.{total}
 use Rattle.cany_laws.specs.Carried.{incarnations_of_first, times_clean}
-use Rattle.cany_laws.proofs.Fronts.{kept_always}
+use Rattle.cany_laws.proofs.KeptAlongJournal.{kept_always}
 use Rattle.cany_laws.proofs.WaitSlots.{is_clean_frame}
 use Rattle.cany_laws.proofs.WaitTotals.{total_both, total_less, total_most}
 

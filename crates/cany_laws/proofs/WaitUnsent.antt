@@ -26,7 +26,7 @@ use Rattle.cany_model.proofs.Rules.MessageKeys.{IsOneOf}
 use Rattle.cany_model.proofs.Runs.FrameInvariants.{history_among}
 use Rattle.cany_model.proofs.Runs.Runs.{IsKept, IsOrderly, along_run, history-length, opening_within}
 use Rattle.cany_model.proofs.Runs.Steps.{MayTurn, after_slot-length, after_slot-trace, after_slot-waiting, after_turn-history, after_turn-node, after_turn-trace, next_notice, running_before_slot}
-use Rattle.cany_model.proofs.Runs.Waits.{waits-from_after}
+use Rattle.cany_model.proofs.Rules.Waits.{waits-from_after}
 use Rattle.cany_laws.proofs.WaitAsksOnce.{AtFirstCopy, AtItsSlot, ed_asked}
 use Rattle.cany_laws.proofs.WaitNodes.{kept_waits, new_reads, same_after_turn, same_reads, slot_reads, turn_reads}
 

@@ -7,17 +7,10 @@ use Rattle.cany_base.specs.Cycles.{cycle_of}
 use Rattle.cany_base.specs.Nodes.{Nodes, has}
 use Rattle.cany_base.specs.Scenario.{ScenarioParts}
 use Rattle.cany_model.specs.Bus.State.{EndedIncarnation, RunState}
-use Rattle.cany_model.specs.Rules.Knowledge.{knows, shows_life, sign_in}
+use Rattle.cany_model.specs.Rules.Knowledge.{hears_life, knows, sign_in}
 use Rattle.cany_laws.specs.Logs.{IsIncarnation, past_to}
 use Rattle.cany_laws.specs.Membership.{knowledge_as, members_as}
 use Rattle.cany_laws.specs.Views.{installed_as}
-
--- whether the notice is that the node got a frame by which node r shows life
-abbrev pub hears_life : ℕ → NoticeKind → Bool
-hears_life r Idle = false
-hears_life r (Got f) = shows_life f && f.node == r
-hears_life r (Sent f) = false
-hears_life r Bad = false
 
 -- An incarnation of node i had another node r in its view after each of its turns of the slots from t on and before slot u, and heard no life of it in the slots after
 -- t and up to u, which it has read.

@@ -10,7 +10,7 @@ use Rattle.cany_base.specs.Scenario.{ScenarioParts}
 use Rattle.cany_model.specs.Bus.Frames.{same_class}
 use Rattle.cany_model.specs.Bus.History.{given}
 use Rattle.cany_model.specs.Bus.State.{EndedIncarnation, RunState}
-use Rattle.cany_laws.specs.Detection.{hears_life}
+use Rattle.cany_model.specs.Rules.Knowledge.{hears_life}
 use Rattle.cany_laws.specs.Logs.{IsIncarnation, past_to}
 use Rattle.cany_laws.specs.Membership.{members_as}
 

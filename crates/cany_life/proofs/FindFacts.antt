@@ -11,7 +11,7 @@ use Rattle.cany_base.specs.Scenario.{ScenarioParts}
 use Rattle.cany_base.proofs.ParamsFacts.{few_nodes}
 use Rattle.cany_model.specs.Rules.Actions.{actions_of}
 use Rattle.cany_model.specs.Rules.Eager.{has_enough}
-use Rattle.cany_model.specs.Rules.Life.{sign_effects}
+use Rattle.cany_model.specs.Rules.Life.{failure_sign_effects}
 use Rattle.cany_model.specs.Rules.Knowledge.{FailureSign, Knowledge, fda_of, found, has_timed_out, knows, sign_in, with_signs}
 use Rattle.cany_model.proofs.Among.{Each-weaker}
 use Rattle.cany_life.specs.Life.{IsReading, IsSignOf, LifeParts}
@@ -93,10 +93,10 @@ module _ (scenario : ScenarioParts) (i : ℕ) (counted past : List NoticeKind) (
       rw (is, ← found_is) (stands_all scenario i counted past knowledge v (found_below v members slot v.params.nodes) h each_found)
 
   pub find_acts : (at : ℕ) → slot ≡ at → found_actions v slot (found_below v members slot v.params.nodes)
-      ≡ actions_of scenario.params.format (flat_map (sign_effects scenario.params.omit at counted) (found scenario.params i slot knowledge))
+      ≡ actions_of scenario.params.format (flat_map (failure_sign_effects scenario.params.omit at counted) (found scenario.params i slot knowledge))
   find_acts at is =
       let signs : List FailureSign = found_below v members slot v.params.nodes in
-      sym (ap (λ xs. actions_of scenario.params.format (flat_map (sign_effects scenario.params.omit at counted) xs)) (sym found_is)
+      sym (ap (λ xs. actions_of scenario.params.format (flat_map (failure_sign_effects scenario.params.omit at counted) xs)) (sym found_is)
       ∙ all_acts scenario.params.format scenario.params.omit at counted (has_enough_of v) signs
       (Each-weaker (IsSignOf scenario) (λ sign. has_enough_of v sign ≡ has_enough scenario.params.omit (fda_of sign) counted)
       (λ sign of. enough_of scenario i counted past knowledge v sign h (omega (arith, of.node, few_nodes scenario.params h.limits.legal.in_range))) signs each_found)

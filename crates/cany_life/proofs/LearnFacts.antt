@@ -27,7 +27,7 @@ use Rattle.cany_model.specs.Bus.Frames.{identity_of, same_class}
 use Rattle.cany_model.specs.Rules.Actions.{action_of, actions_of}
 use Rattle.cany_model.specs.Rules.Eager.{has_enough}
 use Rattle.cany_model.specs.Rules.Effect.{Ask, Withdraw}
-use Rattle.cany_model.specs.Rules.Life.{fda_copy_effects, sign_effects}
+use Rattle.cany_model.specs.Rules.Life.{fda_copy_effects, failure_sign_effects}
 use Rattle.cany_model.specs.Rules.Notices.{BelongsTo, IsNextNotice, NamesNode}
 use Rattle.cany_model.specs.Rules.Rooms.{cycles}
 use Rattle.cany_model.specs.Rules.Knowledge.{FailureSign, Knowledge, fda_frame, fda_of, sign_of, told, with_signs}
@@ -61,19 +61,19 @@ asks_if format false f = refl
 
 -- what a sign calls for, with enough copies or not
 sign_acts : (format : Format) (omit slot : ℕ) (past : List NoticeKind) (sign : FailureSign) (e : Bool) → e ≡ has_enough omit (fda_of sign) past
-    → actions_of format (sign_effects omit slot past sign) ≡ sign_actions slot e sign
-unfolding sign_effects
+    → actions_of format (failure_sign_effects omit slot past sign) ≡ sign_actions slot e sign
+unfolding failure_sign_effects
 sign_acts format omit slot past sign e is =
     ap (λ rest. action.Enter (Failed slot sign.node sign.cycle) ∷ rest)
     (asks_if format (has_enough omit (fda_of sign) past) (fda_frame sign) ∙ ap (λ b. if b then [] else action.Ask (fda_frame sign) ∷ []) (sym is))
 
 pub all_acts : (format : Format) (omit slot : ℕ) (past : List NoticeKind) (e : FailureSign → Bool) (signs : List FailureSign)
     → AllByRecursion (λ sign. e sign ≡ has_enough omit (fda_of sign) past) signs
-    → actions_of format (flat_map (sign_effects omit slot past) signs) ≡ flat_map (λ sign. sign_actions slot (e sign) sign) signs
+    → actions_of format (flat_map (failure_sign_effects omit slot past) signs) ≡ flat_map (λ sign. sign_actions slot (e sign) sign) signs
 all_acts format omit slot past e [] each = refl
 all_acts format omit slot past e (sign ∷ signs) each =
-    map-append (action_of format) (sign_effects omit slot past sign) (flat_map (sign_effects omit slot past) signs)
-    ∙ ap (λ actions. actions ++ actions_of format (flat_map (sign_effects omit slot past) signs)) (sign_acts format omit slot past sign (e sign) each.0)
+    map-append (action_of format) (failure_sign_effects omit slot past sign) (flat_map (failure_sign_effects omit slot past) signs)
+    ∙ ap (λ actions. actions ++ actions_of format (flat_map (failure_sign_effects omit slot past) signs)) (sign_acts format omit slot past sign (e sign) each.0)
     ∙ ap (λ actions. sign_actions slot (e sign) sign ++ actions) (all_acts format omit slot past e signs each.1)
 
 withdraws_if : (format : Format) (b : Bool) (f : FrameParts) → actions_of format (if b then Withdraw (identity_of f) ∷ [] else []) ≡ withdraw_actions format b f
@@ -120,7 +120,7 @@ module _ (scenario : ScenarioParts) (i : ℕ) (past : List NoticeKind) (knowledg
       → IsReading scenario i (Got f ∷ past) (Got f ∷ past) (with_signs (told (Got f) knowledge) knowledge) w
       → after ≡ (before ++ known_actions slot (has_enough_of w (sign_of f)) (unknown (sign_of f) v)) ++ withdraw_actions v.params.format (has_enough_of w (sign_of f)) f
       → after ≡ before ++ actions_of scenario.params.format
-      (flat_map (sign_effects scenario.params.omit (length past) (Got f ∷ past)) (told (Got f) knowledge) ++ fda_copy_effects scenario.params.omit (Got f) (Got f ∷ past))
+      (flat_map (failure_sign_effects scenario.params.omit (length past) (Got f ∷ past)) (told (Got f) knowledge) ++ fda_copy_effects scenario.params.omit (Got f) (Got f ∷ past))
   unfolding fda_copy_effects
   copy_acts slot before after at stands acts =
       let format : Format = scenario.params.format in
@@ -129,8 +129,8 @@ module _ (scenario : ScenarioParts) (i : ℕ) (past : List NoticeKind) (knowledg
       let enough : e ≡ has_enough omit (fda_of (sign_of f)) (Got f ∷ past) = enough_of scenario i (Got f ∷ past) (Got f ∷ past) _ w (sign_of f) stands near in
       let each : AllByRecursion (λ sign. e ≡ has_enough omit (fda_of sign) (Got f ∷ past)) (unknown (sign_of f) v) =
       cond_both (is_known (sign_of f) v) [] (sign_of f ∷ []) (AllByRecursion (λ sign. e ≡ has_enough omit (fda_of sign) (Got f ∷ past))) (λ _. tt) (λ _. (enough, tt)) in
-      let known : actions_of format (flat_map (sign_effects omit (length past) (Got f ∷ past)) (told (Got f) knowledge)) ≡ known_actions slot e (unknown (sign_of f) v) =
-      ap (λ signs. actions_of format (flat_map (sign_effects omit (length past) (Got f ∷ past)) signs)) told_is
+      let known : actions_of format (flat_map (failure_sign_effects omit (length past) (Got f ∷ past)) (told (Got f) knowledge)) ≡ known_actions slot e (unknown (sign_of f) v) =
+      ap (λ signs. actions_of format (flat_map (failure_sign_effects omit (length past) (Got f ∷ past)) signs)) told_is
       ∙ all_acts format omit (length past) (Got f ∷ past) (λ _. e) (unknown (sign_of f) v) each
       ∙ ap (λ n. known_actions n e (unknown (sign_of f) v)) (sym at) in
       let enough_now : has_enough omit (identity_of f) (Got f ∷ past) ≡ e =
@@ -141,7 +141,7 @@ module _ (scenario : ScenarioParts) (i : ℕ) (past : List NoticeKind) (knowledg
       ∙ ap (λ b. withdraw_actions format b f) enough_now
       ∙ ap (λ (p : Parameters). withdraw_actions p.format e f) (sym h.limits.are_params) in
       acts
-      ∙ both_actions format before (flat_map (sign_effects omit (length past) (Got f ∷ past)) (told (Got f) knowledge)) (fda_copy_effects omit (Got f) (Got f ∷ past)) _ _ known withdrawn
+      ∙ both_actions format before (flat_map (failure_sign_effects omit (length past) (Got f ∷ past)) (told (Got f) knowledge)) (fda_copy_effects omit (Got f) (Got f ∷ past)) _ _ known withdrawn
 
 -- ---- a notice that is no such copy
 
@@ -187,8 +187,8 @@ module _ (scenario : ScenarioParts) (i : ℕ) (past : List NoticeKind) (knowledg
 
   pub none_acts : (slot : ℕ) (before : List Action)
       → before ≡ before ++ actions_of scenario.params.format
-      (flat_map (sign_effects scenario.params.omit slot (notice ∷ past)) (told notice knowledge) ++ fda_copy_effects scenario.params.omit notice (notice ∷ past))
+      (flat_map (failure_sign_effects scenario.params.omit slot (notice ∷ past)) (told notice knowledge) ++ fda_copy_effects scenario.params.omit notice (notice ∷ past))
   none_acts slot before =
       no_actions scenario.params.format before
-      (flat_map (sign_effects scenario.params.omit slot (notice ∷ past)) (told notice knowledge) ++ fda_copy_effects scenario.params.omit notice (notice ∷ past))
+      (flat_map (failure_sign_effects scenario.params.omit slot (notice ∷ past)) (told notice knowledge) ++ fda_copy_effects scenario.params.omit notice (notice ∷ past))
       (rw (is, none_told kind knowledge none, none_withdrawn scenario.params.omit kind (kind ∷ past) none) refl)

@@ -13,7 +13,7 @@ use Rattle.cany_base.proofs.ParamsFacts.{few_nodes, few_slots}
 use Rattle.cany_message.proofs.DeliveryFacts.{both_actions}
 use Rattle.cany_model.specs.Rules.Actions.{actions_of}
 use Rattle.cany_model.specs.Rules.Effect.{Effect}
-use Rattle.cany_model.specs.Rules.Life.{failures_at, fda_copy_effects, sign_effects}
+use Rattle.cany_model.specs.Rules.Life.{failures_at, fda_copy_effects, failure_sign_effects}
 use Rattle.cany_model.specs.Rules.Notices.{IsNextNotice}
 use Rattle.cany_model.specs.Rules.Knowledge.{FailureSign, Knowledge, after_life, fda_frame, found, after_finding, after_hearing, after_learning, shows_life, told, told_in, with_members, with_shown, with_signs}
 use Rattle.cany_model.proofs.Rules.NumberFacts.{belongs_small}
@@ -139,13 +139,13 @@ module _ (scenario : ScenarioParts) (i : ℕ) (past : List NoticeKind) (knowledg
 
     pub turn_acts : (start here end : List Action)
         → here ≡ start ++ actions_of scenario.params.format
-        (flat_map (sign_effects scenario.params.omit (length past) (notice.kind ∷ past)) (told_in i (length past) notice.kind before)
+        (flat_map (failure_sign_effects scenario.params.omit (length past) (notice.kind ∷ past)) (told_in i (length past) notice.kind before)
         ++ fda_copy_effects scenario.params.omit notice.kind (notice.kind ∷ past))
         → end ≡ here ++ found_actions x notice.slot (found_below x members notice.slot x.params.nodes)
         → end ≡ start ++ actions_of scenario.params.format (failures_at scenario.params i notice.kind past before)
     unfolding failures_at
     turn_acts start here end learns_acts finds_acts =
-        let effects : FailureSign → List Effect = sign_effects scenario.params.omit (length past) (notice.kind ∷ past) in
+        let effects : FailureSign → List Effect = failure_sign_effects scenario.params.omit (length past) (notice.kind ∷ past) in
         let early : List Effect =
         flat_map effects (told_in i (length past) notice.kind before) ++ fda_copy_effects scenario.params.omit notice.kind (notice.kind ∷ past) in
         let late : found_actions x notice.slot (found_below x members notice.slot x.params.nodes)

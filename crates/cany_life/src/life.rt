@@ -15,7 +15,7 @@ ghost use Rattle.cany_message.specs.Actions.{withdraw_actions};
 ghost use Rattle.cany_message.specs.Table.{CanTake};
 ghost use Rattle.cany_model.specs.Bus.Frames.{same_class};
 ghost use Rattle.cany_model.specs.Rules.Actions.{actions_of};
-ghost use Rattle.cany_model.specs.Rules.Life.{els_frame, failures_at, fda_copy_effects, life_sign, sign_effects, life_signs_sent};
+ghost use Rattle.cany_model.specs.Rules.Life.{els_frame, failures_at, fda_copy_effects, life_sign, failure_sign_effects, life_signs_sent};
 ghost use Rattle.cany_model.specs.Rules.Notices.{IsNextNotice};
 ghost use Rattle.cany_model.specs.Rules.Knowledge.{Knowledge, after_admitting, after_finding, shows_life, sign_of, knowledge_at_first, told, with_members, with_signs};
 
@@ -244,7 +244,7 @@ impl Life {
         ensures actions { (scenario : ScenarioParts) (past : List NoticeKind) (knowledge : Knowledge)
             → IsReading scenario self.old.node past (notice.now.kind ∷ past) knowledge self.old → IsNextNotice scenario past notice.now
             → out.new.items ≡ out.old.items ++ actions_of scenario.params.format
-            (flat_map (sign_effects scenario.params.omit (length past) (notice.now.kind ∷ past)) (told notice.now.kind knowledge)
+            (flat_map (failure_sign_effects scenario.params.omit (length past) (notice.now.kind ∷ past)) (told notice.now.kind knowledge)
             ++ fda_copy_effects scenario.params.omit notice.now.kind (notice.now.kind ∷ past)) }
         ensures node { self.new.node ≡ self.old.node }
         ensures params { self.new.params ≡ self.old.params }

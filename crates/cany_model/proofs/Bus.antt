@@ -1,6 +1,5 @@
 -- The bus: slots, what waits, and what a node has read.
 pub mod Carried
-pub mod Counting
 pub mod EachRead
 pub mod Identities
 pub mod Notes

@@ -2,6 +2,7 @@
 pub mod Agreement
 pub mod Agrees
 pub mod BreakFacts
+pub mod CleanSlots
 pub mod Confirms
 pub mod Diffusion
 pub mod DiffusionRun
@@ -20,7 +21,6 @@ pub mod OneFrame
 pub mod OwnIncarnation
 pub mod OwnSlotsAlone
 pub mod RelcanAgrees
-pub mod Safety
 pub mod SettledFacts
 pub mod SignAgrees
 pub mod SignCounts
@@ -28,3 +28,4 @@ pub mod Sources
 pub mod SpacedSigns
 pub mod VectorNotices
 pub mod WaitingIsAskable
+pub mod WithinSeen

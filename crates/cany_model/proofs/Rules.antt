@@ -1,7 +1,6 @@
 -- What the rules of a node ask for, withdraw and enter.
 pub mod AskedFacts
 pub mod BacklogFacts
-pub mod Begun
 pub mod CycleFacts
 pub mod DeliveryFacts
 pub mod DoneFacts
@@ -9,10 +8,14 @@ pub mod EagerFacts
 pub mod EdcanFacts
 pub mod ErrorCounts
 pub mod ErrorFacts
+pub mod ErrorMembership
 pub mod ErrorMessages
-pub mod ErrorSite
 pub mod FirstCycle
+pub mod IdleBeforeTakingPart
 pub mod IncarnationFacts
+pub mod KnowledgeFacts
+pub mod KnowledgeNodes
+pub mod KnowledgeSteps
 pub mod LifeCounts
 pub mod LifeFacts
 pub mod LogFacts
@@ -21,6 +24,7 @@ pub mod MessageClasses
 pub mod MessageKeys
 pub mod MutedFacts
 pub mod NoDelivery
+pub mod NoEarlyVectors
 pub mod NumberFacts
 pub mod PlaceFacts
 pub mod ProtocolFacts
@@ -31,9 +35,6 @@ pub mod SendFacts
 pub mod SignFacts
 pub mod SignLog
 pub mod SignRooms
-pub mod KnowledgeFacts
-pub mod KnowledgeNodes
-pub mod KnowledgeSteps
 pub mod Timers
 pub mod TotcanFacts
 pub mod TurnEntries
@@ -41,3 +42,4 @@ pub mod TurnFacts
 pub mod VectorFacts
 pub mod ViewFacts
 pub mod ViewLog
+pub mod Waits

@@ -9,4 +9,3 @@ pub mod Rounds
 pub mod Runs
 pub mod SlotStates
 pub mod Steps
-pub mod Waits

@@ -3,5 +3,6 @@ pub mod Common
 pub mod Detector
 pub mod Guarantees
 pub mod Order
+pub mod Safety
 pub mod Views
 pub mod Windows

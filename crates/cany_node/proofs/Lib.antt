@@ -8,13 +8,13 @@ pub mod Askable
 pub mod AskedFacts
 pub mod BacklogFacts
 pub mod BacklogWaits
-pub mod Beginning
+pub mod BeforeFirstTurn
 pub mod Classes
 pub mod FrameTurn
 pub mod GiveFacts
 pub mod HeardTurn
 pub mod Idle
-pub mod MembershipBeginning
+pub mod MembershipBeforeFirstTurn
 pub mod MembershipFacts
 pub mod MembershipSteps
 pub mod MessageLists

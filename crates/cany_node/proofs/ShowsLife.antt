@@ -20,7 +20,7 @@ use Rattle.cany_life.proofs.LearnFacts.{none_stands}
 use Rattle.cany_model.specs.Rules.Effect.{Effect}
 use Rattle.cany_model.specs.Rules.KnowledgeOf.{after_asking, after_installing, after_meeting, after_notice, ended_in, knowledge_of, met_in, start_in}
 use Rattle.cany_model.specs.Rules.Knowledge.{FailureSign, Knowledge, after_finding, after_learning, after_life, found, found_in, has_timed_out, knows, shows_life, sign_in, told, with_shown, with_signs}
-use Rattle.cany_model.specs.Rules.Life.{failure_effects, failures_at, fda_copy_effects, life_sign, life_signs_sent, sign_effects}
+use Rattle.cany_model.specs.Rules.Life.{failure_effects, failures_at, fda_copy_effects, life_sign, life_signs_sent, failure_sign_effects}
 use Rattle.cany_model.specs.Rules.Membership.{install_effects}
 use Rattle.cany_model.specs.Rules.Vectors.{brought, end_effects, ended, exchange_at, met, start_effects, vector_effects}
 use Rattle.cany_model.specs.Rules.Views.{after_ask, start_of, view_effects, with_ended}
@@ -113,8 +113,8 @@ parts_none : (xs ys : List Effect) → xs ++ ys ≡ [] → (xs ≡ []) × (ys �
 parts_none [] ys none = (refl, none)
 parts_none (x ∷ xs) ys none = absurd (cc)
 
-none_found : (omit slot : ℕ) (now : List NoticeKind) (signs : List FailureSign) → flat_map (sign_effects omit slot now) signs ≡ [] → signs ≡ []
-unfolding sign_effects
+none_found : (omit slot : ℕ) (now : List NoticeKind) (signs : List FailureSign) → flat_map (failure_sign_effects omit slot now) signs ≡ [] → signs ≡ []
+unfolding failure_sign_effects
 none_found omit slot now [] none = refl
 none_found omit slot now (sign ∷ signs) none = absurd (cc)
 
@@ -239,9 +239,9 @@ module _ (scenario : ScenarioParts) (i : ℕ) (past : List NoticeKind) (e : Noti
   no_failures : failure_effects scenario i (e ∷ past) ≡ []
   unfolding failure_effects failures_at
   no_failures = λ j.
-      flat_map (sign_effects p.omit slot (e ∷ past)) (only.sign after j)
+      flat_map (failure_sign_effects p.omit slot (e ∷ past)) (only.sign after j)
       ++ only.copy p.omit (e ∷ past) j
-      ++ flat_map (sign_effects p.omit slot (e ∷ past)) (found_none j)
+      ++ flat_map (failure_sign_effects p.omit slot (e ∷ past)) (found_none j)
 
   no_exchange : exchange_plain scenario i (e ∷ past) ≡ []
   unfolding exchange_at vector_effects brought

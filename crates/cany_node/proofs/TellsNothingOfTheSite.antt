@@ -20,7 +20,7 @@ use Rattle.cany_life.proofs.LearnFacts.{IsNoCopy}
 use Rattle.cany_model.specs.Bus.Frames.{same_class, same_identity}
 use Rattle.cany_model.specs.Bus.History.{copies, is_got}
 use Rattle.cany_model.specs.Rules.Effect.{Ask, Enter}
-use Rattle.cany_model.specs.Rules.Life.{failure_effects, failures_at, fda_copy_effects, is_own_sign, life_sign, sign_effects, life_signs_sent}
+use Rattle.cany_model.specs.Rules.Life.{failure_effects, failures_at, fda_copy_effects, is_own_sign, life_sign, failure_sign_effects, life_signs_sent}
 use Rattle.cany_model.specs.Rules.Membership.{install_effects}
 use Rattle.cany_model.specs.Rules.KnowledgeOf.{after_notice, ended_in, after_asking, after_installing, met_in, start_in, knowledge_of}
 use Rattle.cany_model.specs.Rules.Knowledge.{FailureSign, Knowledge, after_life, fda_frame, fda_of, found, found_in, after_finding, after_learning, shows_life, told, told_in, with_signs}
@@ -263,8 +263,8 @@ module _ (scenario : ScenarioParts) (i : ℕ) (past : List NoticeKind) (e : Noti
 
   -- ---- what is done
 
-  sign_same : (omit slot : ℕ) → sign_effects omit slot (e ∷ past) ≡ sign_effects omit slot (Idle ∷ past)
-  unfolding sign_effects
+  sign_same : (omit slot : ℕ) → failure_sign_effects omit slot (e ∷ past) ≡ failure_sign_effects omit slot (Idle ∷ past)
+  unfolding failure_sign_effects
   sign_same omit slot = λ j sign.
       Enter (Failed slot sign.node sign.cycle) ∷ (if nat_le (omit + 1) (copies_same sign j) then [] else Ask (fda_frame sign) ∷ [])
 

@@ -30,7 +30,7 @@ use crate::notices::{
     brings_totcan_or_life, is_early, is_error, is_for_edcan, is_for_relays, is_life_sign,
 };
 use crate::plan::{PlanAndLog, build_plan_and_log};
-use crate::protocols::{AllButEdcan, Protocols, SiteAndRelcan, build_protocols};
+use crate::protocols::{AllButEdcan, MembershipAndRelcan, Protocols, build_protocols};
 use crate::reply::TurnReply;
 use crate::sending::send_due;
 use can_controller::Controller;
@@ -118,7 +118,7 @@ impl Node {
     {
         let Protocols { edcan, others } = protocols;
         let AllButEdcan { totcan, others } = others;
-        let SiteAndRelcan { membership, relcan } = others;
+        let MembershipAndRelcan { membership, relcan } = others;
         let PlanAndLog { plan, log } = own;
         Node {
             node,

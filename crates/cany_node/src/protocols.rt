@@ -1,5 +1,5 @@
 ghost use Rattle.std.specs.Prelude.{◌<◌, IfOk};
-ghost use Rattle.cany_node.specs.Protocols.{AreAllButEdcanAtRest, AreAtRest, AreSiteAndRelcanAtRest};
+ghost use Rattle.cany_node.specs.Protocols.{AreAllButEdcanAtRest, AreAtRest, AreMembershipAndRelcanAtRest};
 
 use crate::membership::Membership;
 use cany_base::{Memory, NodeId, Scenario};
@@ -10,7 +10,7 @@ use std::alloc::Global;
 
 /// What is kept of the site, and RELCAN, as they are built.
 #[derive(Drop)]
-pub(crate) struct SiteAndRelcan {
+pub(crate) struct MembershipAndRelcan {
     pub(crate) membership: Membership,
     pub(crate) relcan: Relcan,
 }
@@ -19,7 +19,7 @@ pub(crate) struct SiteAndRelcan {
 #[derive(Drop)]
 pub(crate) struct AllButEdcan {
     pub(crate) totcan: Totcan,
-    pub(crate) others: SiteAndRelcan,
+    pub(crate) others: MembershipAndRelcan,
 }
 
 /// The protocols of a node, as they are built.
@@ -38,13 +38,13 @@ fn build_site_and_relcan(
     alloc: Global,
     node: NodeId,
     scenario: &Scenario,
-) -> Result<SiteAndRelcan, Memory>
+) -> Result<MembershipAndRelcan, Memory>
     requires { node < scenario.now.params.nodes }
-    ensures { IfOk result (AreSiteAndRelcanAtRest scenario.now node) }
+    ensures { IfOk result (AreMembershipAndRelcanAtRest scenario.now node) }
 {
     let membership = Membership::build(alloc, node, scenario)?;
     let relcan = Relcan::build(alloc, node, scenario)?;
-    Ok(SiteAndRelcan { membership, relcan })
+    Ok(MembershipAndRelcan { membership, relcan })
 }
 
 /// Those and TOTCAN, likewise.

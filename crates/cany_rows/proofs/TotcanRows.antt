@@ -13,8 +13,8 @@ unfoldable delivered : ℕ → List LogEntry
 delivered slot = delivers_tot slot 0 0 (1 ∷ []) ∷ []
 
 -- three nodes, with so long a life interval that no life sign comes in the run
-unfoldable calm : ℕ → Parameters
-calm slots = record (three slots 1 2) { life = 60; silence = 97 }
+unfoldable three_without_life_signs : ℕ → Parameters
+three_without_life_signs slots = record (three slots 1 2) { life = 60; silence = 97 }
 
 -- so many rounds of the same steps
 unfoldable rounds_of : ℕ → List ℕ → List ℕ
@@ -22,26 +22,26 @@ rounds_of n round = concat (replicate n round)
 
 -- The sender stops after only node 1 accepted its frame. Nobody accepts the message, and node 1 drops it in slot 37.
 unfoldable sender_stops_after_partial : ℕ → ScenarioParts
-sender_stops_after_partial slots = scenario (calm slots) one_tot (slot_rule 1 (Partial (set 4)) 1 ∷ [])
+sender_stops_after_partial slots = scenario (three_without_life_signs slots) one_tot (slot_rule 1 (Partial (set 4)) 1 ∷ [])
 
 totcan_unaccepted_is_dropped :
     report_of (sender_stops_after_partial 45) ≡ whole_run (steps (codes ".012" ++ rounds_of 44 (codes ".12")))
     (carries 1 first_tot 1 2 (Partial (set 4)) 1 ∷ [])
     (stopped_node 1 1 [] ∷ running_node 45 [] ∷ running_node 45 [] ∷ [])
     (true ∷ [])
-unfolding row sender_stops_after_partial calm rounds_of
+unfolding row sender_stops_after_partial three_without_life_signs rounds_of
 totcan_unaccepted_is_dropped = refl
 
 -- the closing is ahead so long as slot 37 is not read
 settled_at_the_closing :
     map (λ slots. (report_of (sender_stops_after_partial slots)).settled) (37 ∷ 38 ∷ [])
     ≡ (false ∷ []) ∷ (true ∷ []) ∷ []
-unfolding row sender_stops_after_partial calm
+unfolding row sender_stops_after_partial three_without_life_signs
 settled_at_the_closing = refl
 
 -- the sender stops after only node 1 accepted the frame that accepts the message: node 1 sends it again, and node 2 too
 unfoldable accept_is_partial : ScenarioParts
-accept_is_partial = scenario (calm 45) one_tot (slot_rule 2 (Partial (set 4)) 1 ∷ [])
+accept_is_partial = scenario (three_without_life_signs 45) one_tot (slot_rule 2 (Partial (set 4)) 1 ∷ [])
 
 totcan_accept_survives_its_sender :
     report_of accept_is_partial ≡ whole_run (steps (codes ".012.012" ++ rounds_of 43 (codes ".12")))
@@ -49,7 +49,7 @@ totcan_accept_survives_its_sender :
     ∷ carries 4 first_accept 4 2 Clean 0 ∷ [])
     (stopped_node 2 2 (delivered 1) ∷ running_node 45 (delivered 2) ∷ running_node 45 (delivered 3) ∷ [])
     (true ∷ [])
-unfolding row delivered accept_is_partial calm rounds_of
+unfolding row delivered accept_is_partial three_without_life_signs rounds_of
 totcan_accept_survives_its_sender = refl
 
 -- The message of node 1 reaches node 0 first in a Partial slot. Its later copy moves the place at node 0, so that all deliver
@@ -71,14 +71,14 @@ totcan_late_copy_moves_the_place = refl
 
 -- Outside the hypothesis: the sender is content although node 2 rejects, and node 2 never has the message, which is settled.
 unfoldable silent_to_node_2 : ScenarioParts
-silent_to_node_2 = scenario (calm 45) one_tot (slot_rule 1 (Silent (set 4)) 0 ∷ [])
+silent_to_node_2 = scenario (three_without_life_signs 45) one_tot (slot_rule 1 (Silent (set 4)) 0 ∷ [])
 
 silent_omission_is_outside :
     report_of silent_to_node_2 ≡ broken_run kind.Silent 1 (steps (rounds_of 45 (codes ".012")))
     (carries 1 first_tot 1 2 (Silent (set 4)) 0 ∷ carries 2 first_accept 1 6 Clean 0 ∷ carries 3 first_accept 2 5 Clean 0 ∷ [])
     (running_node 45 (delivered 1) ∷ running_node 45 (delivered 2) ∷ running_node 45 [] ∷ [])
     (true ∷ [])
-unfolding row delivered silent_to_node_2 calm rounds_of
+unfolding row delivered silent_to_node_2 three_without_life_signs rounds_of
 silent_omission_is_outside = refl
 
 -- an ordinary scenario: the message by TOTCAN is open at the end, since its closing lies ahead
@@ -99,7 +99,7 @@ three_services = refl
 
 -- Two messages of one origin, both scripted for slot 0. The first is sent in slot 1, so the second is asked for in slot 37.
 unfoldable two_of_one_origin : ℕ → ScenarioParts
-two_of_one_origin slots = scenario (calm slots) (send_tot 0 0 (1 ∷ []) ∷ send_tot 0 0 (2 ∷ []) ∷ []) []
+two_of_one_origin slots = scenario (three_without_life_signs slots) (send_tot 0 0 (1 ∷ []) ∷ send_tot 0 0 (2 ∷ []) ∷ []) []
 
 second_waits_in_the_backlog :
     (let s = two_of_one_origin 42 in
@@ -110,16 +110,16 @@ second_waits_in_the_backlog :
     ∷ carries 38 second 1 6 Clean 0 ∷ carries 39 (accept 0 1) 1 6 Clean 0 ∷ carries 40 (accept 0 1) 6 1 Clean 0 ∷ [])
     (running_node 42 (log 1 38) ∷ running_node 42 (log 2 39) ∷ running_node 42 (log 2 39) ∷ [])
     (true ∷ false ∷ []))
-unfolding row two_of_one_origin calm rounds_of
+unfolding row two_of_one_origin three_without_life_signs rounds_of
 second_waits_in_the_backlog = refl
 
 -- one that waits in the backlog is open, though nobody waits with its frames and nothing of it lies ahead, until its origin stops
 unfoldable origin_stops : ℕ → ScenarioParts
-origin_stops stop = scenario (calm 10) (send_tot 0 0 (1 ∷ []) ∷ send_tot 0 0 (2 ∷ []) ∷ []) (slot_rule 9 Clean stop ∷ [])
+origin_stops stop = scenario (three_without_life_signs 10) (send_tot 0 0 (1 ∷ []) ∷ send_tot 0 0 (2 ∷ []) ∷ []) (slot_rule 9 Clean stop ∷ [])
 
 open_in_the_backlog :
     map (λ stop. (report_of (origin_stops stop)).settled) (0 ∷ 1 ∷ []) ≡ (false ∷ false ∷ []) ∷ (false ∷ true ∷ []) ∷ []
-unfolding row origin_stops calm
+unfolding row origin_stops three_without_life_signs
 open_in_the_backlog = refl
 
 -- Node 0 stops in slot 2, starts again, and takes part from slot 5 on. Of its three messages the first was sent before; the

@@ -24,12 +24,12 @@ use Rattle.cany_model.proofs.Bus.States.{note_at}
 use Rattle.cany_model.proofs.Promises.Diffusion.{Lived, Turned, past_of}
 use Rattle.cany_model.proofs.Promises.EachNode.{EachRunning, IsNew, each_running}
 use Rattle.cany_model.proofs.Rules.BacklogFacts.{HasJoined, asked-few, backlog_is_lawful, backlog_joined, next_joined}
-use Rattle.cany_model.proofs.Rules.Begun.{IsBegun}
+use Rattle.cany_model.proofs.Rules.IdleBeforeTakingPart.{IsBegun}
 use Rattle.cany_model.proofs.Runs.Steps.{kept_at}
 use Rattle.cany_model.proofs.Timed.Common.Ages.{Sends, any_past, past}
-use Rattle.cany_model.proofs.Timed.Common.LastEffect.{turn_waits, waits_word, word}
+use Rattle.cany_model.proofs.Timed.Common.LastEffect.{turn_waits, waits_by_last_effect, last_effect}
 use Rattle.cany_model.proofs.Timed.Order.TotBacklog.{at_place, backlog_same, next_stands, planned_next, planned_on, planned_other, tot_id}
-use Rattle.cany_model.proofs.Timed.Order.TotEffects.{asks_next, data_still, data_then, data_word}
+use Rattle.cany_model.proofs.Timed.Order.TotEffects.{asks_next, data_still, data_then, data_last_effect}
 use Rattle.cany_model.proofs.Timed.Order.TotKept.{IsPlanned, no_message}
 use Rattle.cany_model.proofs.Timed.Order.TotSlots.{sent_carried, waits_before, waits_of, waits_on}
 use Rattle.cany_model.proofs.Bus.Carried.{is_sent-true}
@@ -150,10 +150,10 @@ next_waits : (scenario : ScenarioParts) (i : ℕ) (e : NoticeKind) (before : Lis
     → waits (tot_of_key m) (waiting_after (turn_effects scenario i (e ∷ before)) W) ≡ true
 next_waits scenario i e before W k m is same =
     turn_waits (tot_of_key m) (turn_effects scenario i (e ∷ before)) W
-    ∙ ap (λ w. waits_word w (waits (tot_of_key m) W)) (data_word m scenario i e before ∙ ap (λ o. word (tot_of_key m) (ask_for o)) is)
+    ∙ ap (λ w. waits_by_last_effect w (waits (tot_of_key m) W)) (data_last_effect m scenario i e before ∙ ap (λ o. last_effect (tot_of_key m) (ask_for o)) is)
     ∙ (elim (asks_next m (Some k)) [
-      | inl silent ↦ absurd (silent.1 k refl same)
-      | inr asks ↦ ap (λ w. waits_word w (waits (tot_of_key m) W)) asks.3
+      | inl no_effect ↦ absurd (no_effect.1 k refl same)
+      | inr asks ↦ ap (λ w. waits_by_last_effect w (waits (tot_of_key m) W)) asks.3
     ])
 
 module _ (scenario : ScenarioParts) (i : ℕ) (T : List SlotNote) (e : NoticeKind) (before : List NoticeKind) (W : List FrameParts)

@@ -18,7 +18,7 @@ use Rattle.cany_model.proofs.Runs.Runs.{orderly}
 use Rattle.cany_model.proofs.Timed.Guarantees.{slots_are_quiet}
 use Rattle.cany_settle.specs.LastEvent.{ask_slots, greater, greatest, is_event, is_lower_slot, is_stop_slot, last_event, last_slot, send_slots}
 use Rattle.cany_settle.specs.LongEnough.{AllSettled, IsLongEnough, last_load, short_tail, tail}
-use Rattle.cany_settle.proofs.Resting.{AreScriptedBy, IsCalmAfter, greater-left, greater-right, lower_there}
+use Rattle.cany_settle.proofs.Resting.{AreScriptedBy, NoLowerSlotAfter, greater-left, greater-right, lower_there}
 use Rattle.cany_settle.proofs.Rests.{idle_slot, nodes_rest}
 use Rattle.cany_settle.proofs.Settles.{settles}
 
@@ -34,8 +34,8 @@ last_slot_above test (note ∷ T) (suc q) there passes =
     let more = greater-right (if test note then note.slot else 0) (last_slot test T) in
     omega (arith, older, more)
 
-calm_after : (T : List SlotNote) (last : ℕ) → last_slot is_lower_slot T ≤ last → IsCalmAfter last T
-calm_after T last short q lower = let above = last_slot_above is_lower_slot T q (lower_there T q lower) lower in omega (arith, above, short)
+no_lower_after : (T : List SlotNote) (last : ℕ) → last_slot is_lower_slot T ≤ last → NoLowerSlotAfter last T
+no_lower_after T last short q lower = let above = last_slot_above is_lower_slot T q (lower_there T q lower) lower in omega (arith, above, short)
 
 scripted_by : (earlier sends : List SendAsk) (m : Message) → IsOneOf (messages_after earlier sends) m → m.slot ≤ greatest (send_slots sends)
 unfolding greatest messages_after
@@ -59,17 +59,17 @@ settles_soon scenario journal legal begins within whole long m stands =
     let last : ℕ = last_load scenario s in
     let ended = and_parts (nat_le scenario.params.slots (slots_run s)) (all_read s) whole in
     let ran : scenario.params.slots ≤ slots_run s = leb-true scenario.params.slots (slots_run s) ended.0 in
-    let calm : IsCalmAfter last s.trace =
-    calm_after s.trace last (greater-right (greatest (send_slots scenario.sends)) (last_slot is_lower_slot s.trace)) in
+    let no_lower : NoLowerSlotAfter last s.trace =
+    no_lower_after s.trace last (greater-right (greatest (send_slots scenario.sends)) (last_slot is_lower_slot s.trace)) in
     let scripted : AreScriptedBy last scenario =
     λ k is.
     let by = scripted_by [] scenario.sends k is in
     let more = greater-left (greatest (send_slots scenario.sends)) (last_slot is_lower_slot s.trace) in
     omega (arith, by, more) in
     let quiets = slots_are_quiet scenario journal (few_nodes scenario.params legal.in_range) legal.formulas legal.members within in
-    let idle = idle_slot scenario journal last quiets calm (omega (arith, long, ran)) in
-    settles scenario last s (orderly scenario journal) begins calm scripted ended.1 (omega (arith, long, ran))
-    (nodes_rest scenario last scripted journal calm idle) m (Among-from_Contains (messages_of scenario.sends) m stands)
+    let idle = idle_slot scenario journal last quiets no_lower (omega (arith, long, ran)) in
+    settles scenario last s (orderly scenario journal) begins no_lower scripted ended.1 (omega (arith, long, ran))
+    (nodes_rest scenario last scripted journal no_lower idle) m (Among-from_Contains (messages_of scenario.sends) m stands)
 
 -- two cycles are no less
 tail_is_longer : (p : Parameters) → MeetsFormulas p → short_tail p ≤ tail p

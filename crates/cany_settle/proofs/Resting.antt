@@ -22,7 +22,7 @@ use Rattle.cany_model.proofs.Bus.Seen.{length-seen}
 use Rattle.cany_model.proofs.Bus.States.{note_at}
 use Rattle.cany_model.proofs.Rules.BacklogFacts.{asked-few}
 use Rattle.cany_model.proofs.Rules.MessageKeys.{IsOneOf}
-use Rattle.cany_model.proofs.Runs.Waits.{Each-after}
+use Rattle.cany_model.proofs.Rules.Waits.{Each-after}
 use Rattle.cany_model.proofs.Timed.Common.Ages.{any_take, at_past, gave, past, some_past}
 use Rattle.cany_model.proofs.Timed.Common.SeenAges.{from_seen}
 use Rattle.cany_model.proofs.Timed.Order.TotBacklog.{at_place}
@@ -44,8 +44,8 @@ greater-right a b = cond_both (nat_lt a b) b a (λ c. b ≤ c) (λ _. omega arit
 
 -- ---- no frame of a lower class after a slot
 
-abbrev pub IsCalmAfter : ℕ → List SlotNote → Type 0
-IsCalmAfter last T = (q : ℕ) → is_lower_slot (note_at T q) ≡ true → (note_at T q).slot ≤ last
+abbrev pub NoLowerSlotAfter : ℕ → List SlotNote → Type 0
+NoLowerSlotAfter last T = (q : ℕ) → is_lower_slot (note_at T q) ≡ true → (note_at T q).slot ≤ last
 
 -- each message is scripted by then
 abbrev pub AreScriptedBy : ℕ → ScenarioParts → Type 0
@@ -69,14 +69,14 @@ never_idle : (note : SlotNote) → note.frame ≡ None → is_lower_slot note �
 never_idle note none h = false≢true (rw none at h)
 
 -- a notice of a frame of a lower class is that of a slot up to there
-pub low_at : (last i : ℕ) (inc : Incarnation) (T : List SlotNote) (q : ℕ) → AreNumbered T → IsCalmAfter last T → is_low (gave i (seen inc T) q) ≡ true
+pub low_at : (last i : ℕ) (inc : Incarnation) (T : List SlotNote) (q : ℕ) → AreNumbered T → NoLowerSlotAfter last T → is_low (gave i (seen inc T) q) ≡ true
     → (q < length T) × (length T ≤ last + suc q)
-low_at last i inc T q numbered calm h =
+low_at last i inc T q numbered no_lower h =
     let lower : is_lower_slot (note_at T q) ≡ true =
     (from_seen (λ note. is_lower_slot note ≡ true) never_idle inc T q (low_given i (note_at (seen inc T) q) h)).1 in
     let there = lower_there T q lower in
     let number = numbered q there in
-    let early = calm q lower in
+    let early = no_lower q lower in
     (there, omega (arith, there, number, early))
 
 -- ---- at rest
@@ -90,7 +90,7 @@ pub record IsResting (scenario : ScenarioParts) (i last : ℕ) (T : List SlotNot
 abbrev pub Resting : ScenarioParts → ℕ → List SlotNote → ℕ → NodeState → Type 0
 Resting scenario last T i node = IsResting (scenario_for scenario node.present) i last T node.unread node.waiting
 
-module _ (scenario : ScenarioParts) (i last : ℕ) (inc : Incarnation) (T : List SlotNote) (numbered : AreNumbered T) (calm : IsCalmAfter last T) where
+module _ (scenario : ScenarioParts) (i last : ℕ) (inc : Incarnation) (T : List SlotNote) (numbered : AreNumbered T) (no_lower : NoLowerSlotAfter last T) where
   abbrev S : List SlotNote
   S = seen inc T
 
@@ -101,11 +101,11 @@ module _ (scenario : ScenarioParts) (i last : ℕ) (inc : Incarnation) (T : List
   pub none_low : (slots u : ℕ) → last + slots + u < length T → list_any is_low (take slots (past i S u)) ≡ false
   none_low slots u late = false_from_ne_true (list_any is_low (take slots (past i S u))) (λ h.
       let q = any_take is_low i slots u S h in
-      let low = low_at last i inc T q.0 numbered calm q.3 in
+      let low = low_at last i inc T q.0 numbered no_lower q.3 in
       omega (arith, q.1, q.2, low.0, low.1, late))
 
   plain_at : (q : ℕ) → last + suc q < length T → is_low (gave i S q) ≡ false
-  plain_at q late = false_from_ne_true (is_low (gave i S q)) (λ h. let low = low_at last i inc T q numbered calm h in omega (arith, low.1, late))
+  plain_at q late = false_from_ne_true (is_low (gave i S q)) (λ h. let low = low_at last i inc T q numbered no_lower h in omega (arith, low.1, late))
 
   -- a turn leaves it so
   pub rests_on : AreScriptedBy last scenario → (u left : ℕ) (W : List FrameParts) → u ≡ suc left → u ≤ length T → IsResting scenario i last S u W
@@ -145,7 +145,7 @@ module _ (scenario : ScenarioParts) (i last : ℕ) (inc : Incarnation) (T : List
     | inr sent ↦
         let m : MsgKey = planned_at scenario i (past i S u) j in
         let few = asked-few scenario i (past i S u) in
-        let low = low_at last i inc T sent.0 numbered calm (holds_low m (gave i S sent.0) (or_right _ (is_sent (tot_of_key m) (gave i S sent.0)) sent.1)) in
+        let low = low_at last i inc T sent.0 numbered no_lower (holds_low m (gave i S sent.0) (or_right _ (is_sent (tot_of_key m) (gave i S sent.0)) sent.1)) in
         ap (λ x. list_any (is_sent x) (past i S u)) (place_id scenario i (past i S u) j (omega (arith, below, few)))
         ∙ some_past (is_sent (tot_of_key m)) i u sent.0 S refl (omega (arith, late, low.1)) sent.1
   ]

@@ -25,14 +25,13 @@ use Rattle.cany_model.proofs.Promises.Diffusion.{past_of}
 use Rattle.cany_model.proofs.Promises.EachNode.{EachRunning, IsNew, restarted_new}
 use Rattle.cany_model.proofs.Runs.Runs.{IsOrderly, MaySlot}
 use Rattle.cany_model.proofs.Runs.SlotStates.{slot_state-trace, slot_state_is}
-use Rattle.cany_model.proofs.Runs.Steps.{MayTurn, after_slot-present, after_slot-trace, after_slot-unread, after_slot-waiting, after_turn-node, after_turn-other, after_turn-runs, after_turn-trace, kept_at, next_notice, node_after_turn, running_before_slot}
-use Rattle.cany_model.proofs.Runs.Waits.{Each-kept}
+use Rattle.cany_model.proofs.Runs.Steps.{MayTurn, after_slot-present, after_slot-trace, after_slot-unread, after_slot-waiting, after_turn-node, after_turn-other, after_turn-runs, after_turn-trace, kept_at, next_notice, node_after_turn, running_before_slot, Each-kept}
 use Rattle.cany_model.proofs.Timed.Order.NoLateAcceptances.{at_older}
 use Rattle.cany_model.proofs.Timed.Order.TotRun.{IsOfRun, along_states, run_orderly}
 use Rattle.cany_settle.specs.LastEvent.{is_lower_slot}
 use Rattle.cany_settle.specs.LongEnough.{settling_time}
 use Rattle.cany_settle.proofs.Backlogs.{BacklogKept, KeepsBacklog, backlogs_kept, begun_asked}
-use Rattle.cany_settle.proofs.Resting.{AreScriptedBy, IsCalmAfter, IsResting, Resting, all_asked_idle, rests_on}
+use Rattle.cany_settle.proofs.Resting.{AreScriptedBy, NoLowerSlotAfter, IsResting, Resting, all_asked_idle, rests_on}
 use Rattle.cany_settle.proofs.Turns.{IsOther}
 
 -- ---- an idle slot
@@ -73,7 +72,7 @@ none_waits rules s idle i running = by_waiting (node_at s.nodes i).waiting refl
 -- ---- the steps
 
 abbrev Rests : ScenarioParts → ℕ → RunState → Type 0
-Rests scenario last s = IsCalmAfter last s.trace → IdleSlot scenario.params last s.trace → EachRunning (Resting scenario last) s
+Rests scenario last s = NoLowerSlotAfter last s.trace → IdleSlot scenario.params last s.trace → EachRunning (Resting scenario last) s
 
 slot_rests : (scenario : ScenarioParts) (i last : ℕ) (inc : Incarnation) (note : SlotNote) (T : List SlotNote) (u : ℕ) (W : List FrameParts)
     → IsResting scenario i last (seen inc T) u W → IsResting scenario i last (seen inc (note ∷ T)) (suc u) (kept_at (given i note) W)
@@ -84,11 +83,11 @@ slot_rests scenario i last inc note T u W h = record {
 }
 
 -- a node that ran in an idle slot is at rest then
-idle_rests : (scenario : ScenarioParts) (last : ℕ) (s : RunState) → IsOfRun scenario s → MaySlot scenario s → IsCalmAfter last s.trace
+idle_rests : (scenario : ScenarioParts) (last : ℕ) (s : RunState) → IsOfRun scenario s → MaySlot scenario s → NoLowerSlotAfter last s.trace
     → (slot_note_of (script scenario.rules) s).frame ≡ None
     → last + settling_time scenario.params + scenario.params.lag < (slot_note_of (script scenario.rules) s).slot
     → (i : ℕ) → runs (node_at s.nodes i) ≡ true → Resting scenario last (seen (node_at s.nodes i).present s.trace) i (node_at s.nodes i)
-idle_rests scenario last s of may calm idle late i running =
+idle_rests scenario last s of may no_lower idle late i running =
     let node : NodeState = node_at s.nodes i in
     let inc : Incarnation = node.present in
     let none : node.waiting ≡ [] = none_waits (script scenario.rules) s idle i running in
@@ -100,13 +99,13 @@ idle_rests scenario last s of may calm idle late i running =
     record {
       read = omega (arith, read, length-seen inc s.trace);
       waits = rw none tt;
-      asked = all_asked_idle (scenario_for scenario inc) i last inc s.trace (run_orderly scenario s of).numbered calm node.unread read
+      asked = all_asked_idle (scenario_for scenario inc) i last inc s.trace (run_orderly scenario s of).numbered no_lower node.unread read
           (subst (λ w. BacklogKept (scenario_for scenario inc) i (seen inc s.trace) (past_of i (seen inc s.trace) node) w) none kept);
     }
 
 rests_slot : (scenario : ScenarioParts) (last : ℕ) (s : RunState) → IsOfRun scenario s → MaySlot scenario s → Rests scenario last s
     → Rests scenario last (after_slot (script scenario.rules) s)
-rests_slot scenario last s of may h calm idle i running =
+rests_slot scenario last s of may h no_lower idle i running =
     let rules = script scenario.rules in
     let ran : runs (node_at s.nodes i) ≡ true = (running_before_slot rules s i running).0 in
     let within = runs_within s.nodes i ran in
@@ -116,15 +115,15 @@ rests_slot scenario last s of may h calm idle i running =
     rw (next, waiting, after_slot-present rules s i within, after_slot-trace rules s)
     (slot_rests (scenario_for scenario (node_at s.nodes i).present) i last (node_at s.nodes i).present (slot_note_of rules s) s.trace
     (node_at s.nodes i).unread (node_at s.nodes i).waiting
-    (before (subst (IsCalmAfter last) (after_slot-trace rules s) calm) (subst (IdleSlot scenario.params last) (after_slot-trace rules s) idle) ran))
+    (before (subst (NoLowerSlotAfter last) (after_slot-trace rules s) no_lower) (subst (IdleSlot scenario.params last) (after_slot-trace rules s) idle) ran))
   where
-    before : IsCalmAfter last (slot_note_of (script scenario.rules) s ∷ s.trace)
+    before : NoLowerSlotAfter last (slot_note_of (script scenario.rules) s ∷ s.trace)
         → IdleSlot scenario.params last (slot_note_of (script scenario.rules) s ∷ s.trace) → runs (node_at s.nodes i) ≡ true
         → Resting scenario last (seen (node_at s.nodes i).present s.trace) i (node_at s.nodes i)
-    before calm' idle' ran = by_age idle'.age idle'.there idle'.idle idle'.late
+    before no_lower' idle' ran = by_age idle'.age idle'.there idle'.idle idle'.late
       where
-        older : IsCalmAfter last s.trace
-        older q lower = calm' (suc q) lower
+        older : NoLowerSlotAfter last s.trace
+        older q lower = no_lower' (suc q) lower
 
         by_age : (age : ℕ) → age < suc (length s.trace) → (note_at (slot_note_of (script scenario.rules) s ∷ s.trace) age).frame ≡ None
             → last + settling_time scenario.params + scenario.params.lag < (note_at (slot_note_of (script scenario.rules) s ∷ s.trace) age).slot
@@ -142,9 +141,9 @@ new_rests scenario last T i node new unread late = record {
 
 rests_restarts : (scenario : ScenarioParts) (last : ℕ) (s : RunState) → IsOrderly scenario.params.nodes s → 0 < length s.trace → Rests scenario last s
     → Rests scenario last (after_restarts scenario s)
-rests_restarts scenario last s o some h calm idle i running =
+rests_restarts scenario last s o some h no_lower idle i running =
     let after : NodeState = node_at (after_restarts scenario s).nodes i in
-    let calm' = subst (IsCalmAfter last) (after_restarts-trace scenario s) calm in
+    let no_lower' = subst (NoLowerSlotAfter last) (after_restarts-trace scenario s) no_lower in
     let idle' = subst (IdleSlot scenario.params last) (after_restarts-trace scenario s) idle in
     let number = o.numbered idle'.age idle'.there in
     let there = idle'.there in
@@ -153,13 +152,13 @@ rests_restarts scenario last s o some h calm idle i running =
       | inl new ↦
           new_rests scenario last (seen after.present s.trace) i after (restarted_new scenario s i o some new)
           (ap (λ (node : NodeState). node.unread) new.is) (omega (arith, number, there, late, length-seen after.present s.trace))
-      | inr same ↦ rw same (h calm' idle' i (sym (ap (λ node. runs node) same) ∙ running))
+      | inr same ↦ rw same (h no_lower' idle' i (sym (ap (λ node. runs node) same) ∙ running))
     ])
 
 rests_turn : (scenario : ScenarioParts) (last : ℕ) → AreScriptedBy last scenario → (s : RunState) (i : ℕ) → IsOfRun scenario s → MayTurn s i
     → Rests scenario last s → Rests scenario last (after_turn scenario i s)
-rests_turn scenario last scripted s i of may h calm idle j running =
-    let calm' = subst (IsCalmAfter last) (after_turn-trace scenario i s) calm in
+rests_turn scenario last scripted s i of may h no_lower idle j running =
+    let no_lower' = subst (NoLowerSlotAfter last) (after_turn-trace scenario i s) no_lower in
     let idle' = subst (IdleSlot scenario.params last) (after_turn-trace scenario i s) idle in
     let o = run_orderly scenario s of in
     let node = node_at s.nodes i in
@@ -169,20 +168,20 @@ rests_turn scenario last scripted s i of may h calm idle j running =
     let next : node.unread ≡ suc (node.unread - 1) = omega (arith, some) in
     let own : Resting scenario last (seen inc s.trace) i (node_after_turn scenario i (next_notice s i ∷ history i s) node) =
     rw (history-is i s)
-    (rests_on (scenario_for scenario inc) i last inc s.trace o.numbered calm' scripted node.unread (node.unread - 1) node.waiting next short
-    (h calm' idle' i may.running)) in
+    (rests_on (scenario_for scenario inc) i last inc s.trace o.numbered no_lower' scripted node.unread (node.unread - 1) node.waiting next short
+    (h no_lower' idle' i may.running)) in
     let after : ℕ → NodeState = λ k. node_at (after_turn scenario i s).nodes k in
     subst (λ T. Resting scenario last (seen (after j).present T) j (after j)) (sym (after_turn-trace scenario i s)) (elim (cases_eq j i) [
       | inl same ↦
           subst (λ k. Resting scenario last (seen (after k).present s.trace) k (after k)) (sym same)
           (subst (λ (n : NodeState). Resting scenario last (seen n.present s.trace) i n) (sym (after_turn-node scenario i s may short)) own)
-      | inr other ↦ rw (after_turn-other scenario i s j other) (h calm' idle' j (sym (after_turn-runs scenario i s j may short) ∙ running))
+      | inr other ↦ rw (after_turn-other scenario i s j other) (h no_lower' idle' j (sym (after_turn-runs scenario i s j may short) ∙ running))
     ])
 
-pub nodes_rest : (scenario : ScenarioParts) (last : ℕ) → AreScriptedBy last scenario → (journal : List Step) → IsCalmAfter last (run scenario journal).trace
+pub nodes_rest : (scenario : ScenarioParts) (last : ℕ) → AreScriptedBy last scenario → (journal : List Step) → NoLowerSlotAfter last (run scenario journal).trace
     → IdleSlot scenario.params last (run scenario journal).trace → EachRunning (Resting scenario last) (run scenario journal)
 nodes_rest scenario last scripted journal =
-    along_states scenario (Rests scenario last) (λ calm idle i running. absurd (never idle))
+    along_states scenario (Rests scenario last) (λ no_lower idle i running. absurd (never idle))
     (record {
       slot = λ s of may h. rests_slot scenario last s of may h;
       restarts = λ s o some h. rests_restarts scenario last s o some h;
@@ -213,10 +212,10 @@ carries_none scenario s quiet rules low = by_frame (slot_note_of rules s).frame 
     ]
 
 -- a quiet slot after the last load is idle
-pub idle_slot : (scenario : ScenarioParts) (journal : List Step) (last : ℕ) → HasQuietSlots scenario journal → IsCalmAfter last (run scenario journal).trace
+pub idle_slot : (scenario : ScenarioParts) (journal : List Step) (last : ℕ) → HasQuietSlots scenario journal → NoLowerSlotAfter last (run scenario journal).trace
     → last + settling_time scenario.params + scenario.params.lag + scenario.params.bound < slots_run (run scenario journal)
     → IdleSlot scenario.params last (run scenario journal).trace
-idle_slot scenario journal last quiets calm long =
+idle_slot scenario journal last quiets no_lower long =
     let T : List SlotNote = (run scenario journal).trace in
     let quiet = quiets (length T - scenario.params.bound) (omega (arith, long)) in
     let was = quiet.3 in
@@ -229,7 +228,7 @@ idle_slot scenario journal last quiets calm long =
     let whole : length T ≡ length w.0 + suc (length s.trace) = ap length w.1 ∙ length-append w.0 (note ∷ s.trace) in
     let from = quiet.1 in
     let low : is_lower_slot note ≡ true → ⊥ =
-    λ h. let early = calm (length w.0) (ap is_lower_slot at ∙ h) in let slot = ap (λ (n : SlotNote). n.slot) at in
+    λ h. let early = no_lower (length w.0) (ap is_lower_slot at ∙ h) in let slot = ap (λ (n : SlotNote). n.slot) at in
     omega (arith, early, slot, number, from, long) in
     record {
       age = length w.0;

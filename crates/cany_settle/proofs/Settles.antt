@@ -37,7 +37,7 @@ use Rattle.cany_model.proofs.Timed.Order.TotBacklog.{past_dropped}
 use Rattle.cany_model.proofs.Timed.Order.TotSlots.{waiting_frame}
 use Rattle.cany_model.proofs.Timed.Order.TotTurn.{AreNumbered}
 use Rattle.cany_settle.specs.LongEnough.{settling_time}
-use Rattle.cany_settle.proofs.Resting.{AreScriptedBy, IsCalmAfter, Resting, greater-left, greater-right, low_at, none_low}
+use Rattle.cany_settle.proofs.Resting.{AreScriptedBy, NoLowerSlotAfter, Resting, greater-left, greater-right, low_at, none_low}
 use Rattle.cany_settle.proofs.Turns.{AllAsked, IsOther, is_low, not_recent, top_rel}
 
 -- ---- nobody waits
@@ -64,7 +64,7 @@ any_waits_not w others m h =
 
 -- ---- nothing is ahead
 
-module _ (scenario : ScenarioParts) (i last : ℕ) (inc : Incarnation) (T : List SlotNote) (numbered : AreNumbered T) (calm : IsCalmAfter last T)
+module _ (scenario : ScenarioParts) (i last : ℕ) (inc : Incarnation) (T : List SlotNote) (numbered : AreNumbered T) (no_lower : NoLowerSlotAfter last T)
     (late : last + settling_time scenario.params < length T) (m : Message) where
   abbrev read : List NoticeKind
   read = past i (seen inc T) 0
@@ -80,7 +80,7 @@ module _ (scenario : ScenarioParts) (i last : ℕ) (inc : Incarnation) (T : List
       let first = and_parts timed copy inner.0 in
       let rel : same_class x.class class.Rel ≡ true = (and_parts (same_class x.class class.Rel) (not (x.node == i)) first.0).0 in
       let q = any_past (is_got x) i 0 (seen inc T) first.1 in
-      let low = low_at last i inc T q.0 numbered calm (got_low x rel (gave i (seen inc T) q.0) q.2) in
+      let low = low_at last i inc T q.0 numbered no_lower (got_low x rel (gave i (seen inc T) q.0) q.2) in
       let a = greater-left scenario.params.confirm (scenario.params.bound + scenario.params.lag) in
       let old : has_copy x (past i (seen inc T) (0 + scenario.params.confirm)) ≡ true =
       some_past (is_got x) i (0 + scenario.params.confirm) q.0 (seen inc T) refl (omega (arith, low.1, late, a)) q.2 in
@@ -96,7 +96,7 @@ module _ (scenario : ScenarioParts) (i last : ℕ) (inc : Incarnation) (T : List
   no_closing h =
       let b = greater-right scenario.params.confirm (scenario.params.bound + scenario.params.lag) in
       both_ways (can_be_accepted scenario.params.bound (message_key m) read)
-      (not_recent scenario.params.bound (message_key m) read (none_low scenario i last inc T numbered calm scenario.params.bound 0 (omega (arith, late, b))))
+      (not_recent scenario.params.bound (message_key m) read (none_low scenario i last inc T numbered no_lower scenario.params.bound 0 (omega (arith, late, b))))
       (and_parts (is_service m.service Tot) (can_be_accepted scenario.params.bound (message_key m) read) h).1
 
   none_ahead : is_ahead_at scenario m i read ≡ true → ⊥
@@ -164,7 +164,7 @@ asked_by scenario m is begun past read all Rel rel = at_once scenario m is begun
 -- ---- every message
 
 module _ (scenario : ScenarioParts) (last : ℕ) (s : RunState) (o : IsOrderly scenario.params.nodes s) (begins : scenario.from ≡ 0)
-    (calm : IsCalmAfter last s.trace) (scripted : AreScriptedBy last scenario) (all : all_read s ≡ true)
+    (no_lower : NoLowerSlotAfter last s.trace) (scripted : AreScriptedBy last scenario) (all : all_read s ≡ true)
     (late : last + settling_time scenario.params < length s.trace) (rest : EachRunning (Resting scenario last) s) (m : Message)
     (is : IsOneOf (messages_of scenario.sends) m) where
   read_all : (i : ℕ) → runs (node_at s.nodes i) ≡ true → history i s ≡ past i (seen (node_at s.nodes i).present s.trace) 0
@@ -204,7 +204,7 @@ module _ (scenario : ScenarioParts) (last : ℕ) (s : RunState) (o : IsOrderly s
       let i : ℕ = w.0 in
       let inc : Incarnation = (node_at s.nodes i).present in
       let parts = and_parts (runs (node_at s.nodes i)) (ahead i) w.2 in
-      none_ahead (scenario_for scenario inc) i last inc s.trace o.numbered calm late m
+      none_ahead (scenario_for scenario inc) i last inc s.trace o.numbered no_lower late m
       (subst (λ (l : List NoticeKind). is_ahead_at (scenario_for scenario inc) m i l ≡ true) (read_all i parts.0) parts.1))
 
   pub settles : is_settled scenario s m ≡ true

@@ -32,7 +32,7 @@ use Rattle.cany_model.proofs.Rules.MessageClasses.{is_of_message, others_of, req
 use Rattle.cany_model.proofs.Rules.SendFacts.{is_sent_in-true, sendable_one}
 use Rattle.cany_model.proofs.Rules.VectorFacts.{vectors_are_lawful}
 use Rattle.cany_model.proofs.Rules.ViewFacts.{asks_are_lawful, views_are_lawful}
-use Rattle.cany_model.proofs.Runs.Waits.{AsksOnly}
+use Rattle.cany_model.proofs.Rules.Waits.{AsksOnly}
 
 -- ---- classes
 

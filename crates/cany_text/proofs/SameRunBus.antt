@@ -8,7 +8,7 @@ use Rattle.cany_model.specs.declared.follow.FollowFault.{FollowFault}
 use Rattle.cany_model.specs.Runs.Follow.{first_refused_from, first_refused, undone, or_undone, journal_fault}
 use Rattle.cany_model.specs.Bus.History.{history}
 use Rattle.cany_model.specs.Bus.Restart.{after_entries, nodes_after_entries, after_restarts}
-use Rattle.cany_model.specs.Runs.Run.{after_step, after_turn, having_read, proceed, reply, run, run_from, with_waiting}
+use Rattle.cany_model.specs.Runs.Run.{after_step, after_turn, after_reading, proceed, reply, run, run_from, with_waiting}
 use Rattle.cany_model.specs.Bus.State.{NodeState, RunState, node_at, opening}
 use Rattle.cany_model.specs.Rules.Effect.{Effect, waiting_after}
 use Rattle.cany_text.specs.Replayed.{with_journal}
@@ -24,7 +24,7 @@ same_turn : (given : Option (List Step)) (scenario : ScenarioParts) (i : ℕ) (s
     → after_turn (with_journal given scenario) i s ≡ after_turn scenario i s
 unfolding after_turn
 same_turn given scenario i s =
-    let read : RunState = having_read i s in
+    let read : RunState = after_reading i s in
     let node : NodeState = node_at read.nodes i in
     ap (λ (effects : List Effect). with_waiting i read (record node { waiting = waiting_after effects node.waiting }))
     (same_effects given scenario node.present.number node.present i (history i read))

@@ -1,10 +1,10 @@
 pub mod Adding
-pub mod Beginnings
 pub mod Cuts
 pub mod LineFacts
+pub mod Prefixes
 pub mod PublishFacts
 pub mod Rows
 pub mod Showing
+pub mod TopFacts
 pub mod Waiting
 pub mod WatchFacts
-pub mod TopFacts

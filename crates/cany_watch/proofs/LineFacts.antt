@@ -30,7 +30,7 @@ use Rattle.cany_world.proofs.InOrder.{AllInOrder, AreInOrder, in_order, slot_sam
 use Rattle.cany_model.specs.declared.reply.StepReply.{StepReply}
 use Rattle.cany_world.specs.World.{WorldParts, state_of}
 use Rattle.cany_watch.specs.Lines.{Longer, line}
-use Rattle.cany_watch.proofs.Beginnings.{prefix_self, prefix_trans}
+use Rattle.cany_watch.proofs.Prefixes.{prefix_self, prefix_trans}
 
 -- ---- the logs of the incarnations as a list, the newest first
 

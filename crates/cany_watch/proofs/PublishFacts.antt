@@ -15,7 +15,7 @@ use Rattle.cany_watch.specs.Notes.{NoteParts}
 use Rattle.cany_watch.specs.Lines.{Longer, line, line_of, nodes_of}
 use Rattle.cany_watch.specs.Publishers.{PublisherParts, note_of}
 use Rattle.cany_watch.proofs.LineFacts.{logs_begin_line, logs_below}
-use Rattle.cany_watch.proofs.Beginnings.{prefix_self, prefix_trans, prefix_shorter, prefix_whole}
+use Rattle.cany_watch.proofs.Prefixes.{prefix_self, prefix_trans, prefix_shorter, prefix_whole}
 
 pub took_some : (entries : List LogEntry) (s s' : PublisherParts) (n : ℕ) → s' ≡ record s { taken = s.taken ++ take n entries } → HasTaken false entries s s'
 took_some entries s s' n is = record {

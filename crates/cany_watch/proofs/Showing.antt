@@ -7,7 +7,7 @@ use Rattle.atomic_table.proofs.Lists.{at_set, at_snoc}
 use Rattle.cany_watch.specs.declared.published.Published.{Published}
 use Rattle.cany_watch.specs.Notes.{NoteParts, Follows}
 use Rattle.cany_watch.specs.Shown.{Keeps, Shows, FollowsAny, IsShown}
-use Rattle.cany_watch.proofs.Beginnings.{prefix_self, prefix_trans}
+use Rattle.cany_watch.proofs.Prefixes.{prefix_self, prefix_trans}
 
 pub follows_self : (n : NoteParts) → Follows n n
 follows_self n = (refl, prefix_self n.entries)

@@ -35,20 +35,20 @@ early_or_plain i cycle note = by_frame note.frame refl
     ]
 
 -- where the slot gave no frame the incarnation sees and hears an idle one
-seen_quiet : (i : ℕ) (inc : Incarnation) (note : SlotNote) → error_as_idle (given i note) ≡ Idle → error_as_idle (given i (as_seen inc note)) ≡ Idle
-seen_quiet i inc note quiet = elim (cases_Bool (is_hidden inc note)) [
+seen_without_frame : (i : ℕ) (inc : Incarnation) (note : SlotNote) → error_as_idle (given i note) ≡ Idle → error_as_idle (given i (as_seen inc note)) ≡ Idle
+seen_without_frame i inc note no_frame = elim (cases_Bool (is_hidden inc note)) [
   | inl hidden ↦ ap error_as_idle (seen_idle i inc note hidden)
-  | inr plain ↦ ap (λ n. error_as_idle (given i n)) (seen_plain inc note plain) ∙ quiet
+  | inr plain ↦ ap (λ n. error_as_idle (given i n)) (seen_plain inc note plain) ∙ no_frame
 ]
 
-heard_quiet : (number from cycle slot : ℕ) (kind : NoticeKind) → error_as_idle kind ≡ Idle → heard number from cycle slot kind ≡ Idle
-heard_quiet number from cycle slot kind quiet =
-    cond_both (not (number == 0) && (nat_lt slot from || is_early cycle kind)) Idle (error_as_idle kind) (λ k. k ≡ Idle) (λ _. refl) (λ _. quiet)
+heard_without_frame : (number from cycle slot : ℕ) (kind : NoticeKind) → error_as_idle kind ≡ Idle → heard number from cycle slot kind ≡ Idle
+heard_without_frame number from cycle slot kind no_frame =
+    cond_both (not (number == 0) && (nat_lt slot from || is_early cycle kind)) Idle (error_as_idle kind) (λ k. k ≡ Idle) (λ _. refl) (λ _. no_frame)
 
 heard-is : (i : ℕ) (inc : Incarnation) (note : SlotNote) → error_as_idle (given i (as_seen inc note)) ≡ heard inc.number inc.from inc.cycle note.slot (given i note)
 unfolding is_hidden
 heard-is i inc note = elim (early_or_plain i inc.cycle note) [
-  | inl quiet ↦ seen_quiet i inc note quiet ∙ sym (heard_quiet inc.number inc.from inc.cycle note.slot (given i note) quiet)
+  | inl no_frame ↦ seen_without_frame i inc note no_frame ∙ sym (heard_without_frame inc.number inc.from inc.cycle note.slot (given i note) no_frame)
   | inr early ↦ elim (cases_Bool (is_hidden inc note)) [
     | inl hidden ↦ ap error_as_idle (seen_idle i inc note hidden) ∙ sym (rw (early, hidden) refl)
     | inr plain ↦ ap (λ n. error_as_idle (given i n)) (seen_plain inc note plain) ∙ sym (rw (early, plain) refl)

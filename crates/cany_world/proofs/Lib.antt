@@ -1,5 +1,4 @@
 pub mod AlikeFacts
-pub mod BeganFacts
 pub mod ControllerFacts
 pub mod Endings
 pub mod EntriesLeft
@@ -8,11 +7,12 @@ pub mod HeardFacts
 pub mod Idle
 pub mod InOrder
 pub mod JournalFacts
+pub mod NoRestartEntry
 pub mod NodeFacts
+pub mod NothingToDo
 pub mod OpeningFacts
 pub mod PeriodFacts
 pub mod PlaceFacts
-pub mod QuietFacts
 pub mod RestartFacts
 pub mod RestartsOneByOne
 pub mod RoundFacts

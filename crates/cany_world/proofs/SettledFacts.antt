@@ -38,7 +38,7 @@ use Rattle.cany_world.specs.World.{WorldParts, state_of}
 use Rattle.cany_world.specs.WorldFields.{IsRun, world_parts}
 use Rattle.cany_world.proofs.AlikeFacts.{all_read_same, awaited_same}
 use Rattle.cany_world.proofs.PlaceFacts.{found}
-use Rattle.cany_world.proofs.QuietFacts.{quiet_where_none_has_anything_to_do}
+use Rattle.cany_world.proofs.NothingToDo.{nobody_waits_where_nothing_to_do}
 
 -- ---- the four parts
 
@@ -56,11 +56,11 @@ all_four : (a b c d : Bool) → (a && (b && c) && d) ≡ (a && b && c && d)
 all_four true b c d = refl
 all_four false b c d = refl
 
-pub settled_by : (scenario : ScenarioParts) (journal : List Step) (m : Message) (service : Service) (key : MsgKey) (controllers : List ControllerState) (nodes : List IncarnationsParts) (asked quiet ahead : Bool)
+pub settled_by : (scenario : ScenarioParts) (journal : List Step) (m : Message) (service : Service) (key : MsgKey) (controllers : List ControllerState) (nodes : List IncarnationsParts) (asked none_waits ahead : Bool)
     → IsAbout scenario journal m key controllers nodes → m.service ≡ service → asked ≡ is_asked scenario (run scenario journal) m
-    → quiet ≡ (not (list_any (awaits (frames_named service key)) controllers) && list_all has_read controllers) → ahead ≡ is_ahead scenario (run scenario journal) m
-    → (asked && quiet && not ahead) ≡ is_settled scenario (run scenario journal) m
-settled_by scenario journal m service key controllers nodes asked quiet ahead about by asks is has =
+    → none_waits ≡ (not (list_any (awaits (frames_named service key)) controllers) && list_all has_read controllers) → ahead ≡ is_ahead scenario (run scenario journal) m
+    → (asked && none_waits && not ahead) ≡ is_settled scenario (run scenario journal) m
+settled_by scenario journal m service key controllers nodes asked none_waits ahead about by asks is has =
     let awaited : Bool = list_any (awaits (frames_named service key)) controllers in
     ap (λ q. asked && q && not ahead) is
     ∙ all_four asked (not awaited) (list_all has_read controllers) (not ahead)
@@ -308,12 +308,12 @@ nothing_at_stopped scenario s i m c ctl b e h =
     stopped (Some slot) e = refl
 
 -- where no running node has anything to do or anything of the message ahead, it is settled as soon as it was asked for
-pub settled_where_quiet : (scenario : ScenarioParts) (journal : List Step) (m : Message) (service : Service) (key : MsgKey) (controllers : List ControllerState) (nodes : List IncarnationsParts)
+pub settled_where_nothing_to_do : (scenario : ScenarioParts) (journal : List Step) (m : Message) (service : Service) (key : MsgKey) (controllers : List ControllerState) (nodes : List IncarnationsParts)
     → IsAbout scenario journal m key controllers nodes → m.service ≡ service → HaveNothingToDo controllers → is_ahead scenario (run scenario journal) m ≡ false
     → is_settled scenario (run scenario journal) m ≡ is_asked scenario (run scenario journal) m
-settled_where_quiet scenario journal m service key controllers nodes about by quiet none =
+settled_where_nothing_to_do scenario journal m service key controllers nodes about by nothing none =
     sym (settled_by scenario journal m service key controllers nodes (is_asked scenario (run scenario journal) m) true false about by refl
-    (sym (quiet_where_none_has_anything_to_do (frames_named service key) controllers quiet)) (sym none))
+    (sym (nobody_waits_where_nothing_to_do (frames_named service key) controllers nothing)) (sym none))
     ∙ and_true (is_asked scenario (run scenario journal) m)
   where
     and_true : (b : Bool) → (b && true && true) ≡ b

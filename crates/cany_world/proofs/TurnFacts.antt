@@ -42,7 +42,7 @@ use Rattle.cany_model.proofs.Promises.SpacedSigns.{own_signs_few}
 use Rattle.cany_model.proofs.Promises.VectorNotices.{readable_vector}
 use Rattle.cany_model.proofs.Rules.ErrorCounts.{plain, plain-length}
 use Rattle.cany_model.proofs.Rules.ErrorFacts.{error_turn}
-use Rattle.cany_model.proofs.Rules.ErrorSite.{plain_signs_sent, plain_knowledge}
+use Rattle.cany_model.proofs.Rules.ErrorMembership.{plain_signs_sent, plain_knowledge}
 use Rattle.can_controller.specs.Controller.{ControllerState}
 use Rattle.cany_node.specs.Apply.{AreAskable, is_sign}
 use Rattle.cany_node.specs.declared.reply.TurnReply.{TurnReply}

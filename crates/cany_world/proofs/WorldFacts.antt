@@ -12,7 +12,7 @@ use Rattle.cany_model.specs.Promises.Hypothesis.{IsWithin}
 use Rattle.cany_model.specs.Promises.Safe.{IsIntegral, IsSafe}
 use Rattle.cany_model.proofs.Runs.Journals.{run_none}
 use Rattle.cany_model.proofs.Promises.Integrity.{integral}
-use Rattle.cany_model.proofs.Promises.Safety.{safe}
+use Rattle.cany_model.proofs.Timed.Safety.{safe}
 use Rattle.cany_model.proofs.Timed.Detector.DetectorLaws.{keeps_members}
 use Rattle.can_bus.specs.Bus.{BusParts, Follows}
 use Rattle.can_controller.specs.Controller.{ControllerState}

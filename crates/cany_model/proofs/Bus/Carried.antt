@@ -1,13 +1,12 @@
 -- What a note says of a frame: that the slot carried it, with success, or Clean.
-use Rattle.std.proofs.Common.{◌≡◌, ℕ, ◌==◌, ◌&&◌, ◌⊎◌, inl, inr, Bool, true, List, map, drop, Option, Some, None, Contains, refl}
-use Rattle.std.proofs.lemmas.Bool.{false≢true, and_parts, or_cases}
+use Rattle.std.proofs.Common.{◌≡◌, ℕ, ◌⊎◌, inl, inr, Bool, true, List, map, drop, Option, Some, None, Contains, refl}
+use Rattle.std.proofs.lemmas.Bool.{false≢true}
 use Rattle.cany_base.specs.declared.notice.NoticeKind.{NoticeKind}
 use Rattle.cany_base.specs.declared.notice.NoticeKind.TheVariants.{Idle, Got, Sent, Bad}
 use Rattle.cany_base.specs.declared.rule.Verdict.TheVariants.{Clean}
 use Rattle.cany_base.specs.declared.slot_note.SlotNote.{SlotNote}
 use Rattle.cany_base.specs.Frame.{FrameParts}
 use Rattle.cany_base.specs.Nodes.{has}
-use Rattle.cany_model.specs.Rules.Delivery.{brings}
 use Rattle.cany_model.specs.Bus.Frames.{Identity, identity_of}
 use Rattle.cany_model.specs.Bus.History.{given, is_got, is_sent, has_own}
 use Rattle.cany_model.specs.Bus.Slot.{carried, is_success}
@@ -103,18 +102,6 @@ Succeeds-from_own i x trace h =
 abbrev pub Has : FrameParts → NoticeKind → Type 0
 Has f notice = (notice ≡ Got f) ⊎ (notice ≡ Sent f)
 
--- what brings a frame has it, or one of its identity
-pub record Brought (i : ℕ) (x : Identity) (e : NoticeKind) : Type 0 where
-  pub what : FrameParts
-  pub has : Has what e
-  pub identity : x ≡ identity_of what
-
-pub brings-true : (i : ℕ) (x : Identity) (e : NoticeKind) → brings i x e ≡ true → Brought i x e
-brings-true i x e h = elim (or_cases (is_got x e) (x.node == i && is_sent x e) h) [
-  | inl got ↦ let g = is_got-true x e got in record { what = g.what; has = inl g.was; identity = g.identity }
-  | inr sent ↦ let g = is_sent-true x e (and_parts (x.node == i) (is_sent x e) sent).1 in record { what = g.what; has = inr g.was; identity = g.identity }
-]
-
 pub frame_of_notice : (i : ℕ) (note : SlotNote) (f : FrameParts) → Has f (given i note) → note.frame ≡ Some f
 frame_of_notice i note f (inl got) = (given-Got i note f got).0
 frame_of_notice i note f (inr sent) = (given-Sent i note f sent).0
@@ -132,9 +119,3 @@ pub read_among : (i : ℕ) (unread : ℕ) (P : NoticeKind → Type 0) (Q : SlotN
     → (trace : List SlotNote) → Among P (map (given i) (drop unread trace)) → Among Q trace
 read_among i unread P Q f trace h =
     Among-drop Q unread trace (Among-weaker (λ note. P (given i note)) Q f (drop unread trace) (Among-from_map (given i) P (drop unread trace) h))
-
-pub Carries-from_brought : (i : ℕ) (x : Identity) (note : SlotNote) → brings i x (given i note) ≡ true → Carries x note
-Carries-from_brought i x note h = elim (or_cases (is_got x (given i note)) (x.node == i && is_sent x (given i note)) h) [
-  | inl got ↦ Carries-from_got i x note got
-  | inr sent ↦ (Succeeds-from_sent i x note (and_parts (x.node == i) (is_sent x (given i note)) sent).1).carries
-]

@@ -2,13 +2,12 @@
 use Rattle.std.specs.Prelude.{◌≡◌, ℕ, ◌==◌, true, ◌&&◌, [], ◌∷◌, slice_index_or, refl}
 use Rattle.std.specs.Str.{bytes_eq}
 use Rattle.std.proofs.Common.{sym, ap, ◌∙◌, eqb-true, eq-eqb, ◌≡◌, ◌==◌, ◌&&◌, true, refl}
-use Rattle.std.proofs.lemmas.Bool.{and_parts, and_from, eq-eqb, cond_both}
+use Rattle.std.proofs.lemmas.Bool.{and_parts, and_from, eq-eqb}
 use Rattle.std.proofs.lemmas.Slice.Eq.{bytes_eq-Decides}
 use Rattle.cany_base.specs.declared.class.Class.{Class}
 use Rattle.cany_base.specs.declared.class.Class.TheVariants.{Accept, Rha, Els, Fda, Join, Leave, Confirm, Tot, Rel, Ed}
 use Rattle.cany_base.specs.Frame.{FrameParts, class_number}
 use Rattle.cany_model.specs.Bus.Frames.{Identity, identity_of, same_class, same_identity, same_frame}
-use Rattle.cany_model.specs.Promises.Hypothesis.{count_together}
 
 abbrev class_at : ℕ → Class
 class_at n = slice_index_or (Accept ∷ Rha ∷ Els ∷ Fda ∷ Join ∷ Leave ∷ Confirm ∷ Tot ∷ Rel ∷ Ed ∷ []) n Ed
@@ -78,10 +77,3 @@ pub same_frame-identity : (f g : FrameParts) → same_frame f g ≡ true → ide
 unfolding same_frame
 same_frame-identity f g h =
     same_identity-true (identity_of f) (identity_of g) (and_parts (same_identity (identity_of f) (identity_of g)) (f.inc == g.inc) (and_parts _ _ h).0).0
-
--- the Partial slots of an identity count for it
-pub count_together-itself : (x : Identity) → count_together x x ≡ true
-unfolding count_together
-count_together-itself x =
-    cond_both (same_class x.class Rha) (same_class x.class Rha && x.number == x.number) (same_identity x x) (λ b. b ≡ true)
-    (λ rha. rw rha (eq-eqb x.number x.number refl)) (λ _. same_identity_self x)

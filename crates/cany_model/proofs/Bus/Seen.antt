@@ -1,23 +1,17 @@
 -- The trace as an incarnation sees it: idle before its first slot, and where a slot carries a vector of a cycle before its first.
-use Rattle.std.proofs.Common.{◌≡◌, ℕ, zero, suc, ◌+◌, ◌-◌, ◌<◌, ◌≤◌, ◌==◌, ◌&&◌, ◌||◌, ◌⊎◌, inl, inr, Bool, true, false, not, nat_lt, if◌then◌else◌, List, [], ◌∷◌, map, drop, take, count_by, length, None, Some, refl, ap, sym, ◌∙◌, subst, arith}
-use Rattle.std.specs.List.{AllByRecursion}
-use Rattle.std.proofs.lemmas.Bool.{and_from, and_parts, and_right, both_ways, cases_Bool, eq-eqb, eqb-false, false_from_ne_true, le-ltb, lt-ltb, ltb-true, ne_eqb, not-true, not_from_false, or_cases, or_left, or_right}
+use Rattle.std.proofs.Common.{◌≡◌, ℕ, zero, suc, ◌-◌, ◌<◌, ◌≤◌, ◌==◌, ◌||◌, ◌⊎◌, inl, inr, Bool, true, false, not, nat_lt, if◌then◌else◌, List, [], ◌∷◌, map, drop, take, length, None, Some, refl, ap, sym, ◌∙◌, subst, arith}
+use Rattle.std.proofs.lemmas.Bool.{and_from, and_parts, and_right, cases_Bool, eq-eqb, eqb-false, le-ltb, lt-ltb, ltb-true, ne_eqb, not-true, not_from_false, or_cases, or_left, or_right}
 use Rattle.std.proofs.lemmas.List.{length-map}
-use Rattle.std.proofs.lemmas.List.Elements.{All-from_recursion, recursion_from_All}
 use Rattle.cany_base.specs.declared.class.Class.TheVariants as class
 use Rattle.cany_base.specs.declared.notice.NoticeKind.{NoticeKind}
-use Rattle.cany_base.specs.declared.notice.NoticeKind.TheVariants.{Idle, Got, Sent, Bad}
+use Rattle.cany_base.specs.declared.notice.NoticeKind.TheVariants.{Idle}
 use Rattle.cany_base.specs.declared.slot_note.SlotNote.{SlotNote}
 use Rattle.cany_base.specs.Frame.{FrameParts}
-use Rattle.cany_base.specs.Params.{Parameters}
-use Rattle.cany_model.specs.Bus.Frames.{Identity, identity_of, same_class}
+use Rattle.cany_model.specs.Bus.Frames.{same_class}
 use Rattle.cany_model.specs.Bus.History.{as_seen, carries_early, ended_history, given, history, is_hidden, seen, trace_for}
-use Rattle.cany_model.specs.Bus.Slot.{carried}
 use Rattle.cany_model.specs.Bus.State.{Incarnation, RunState, node_at, reads}
-use Rattle.cany_model.specs.Promises.Hypothesis.{IsWithin, any_frame, count_together, error_slots, is_error, is_error_slot, is_partial, is_partial_slot_of, is_silent, is_silent_slot, partial_slots}
-use Rattle.cany_model.specs.Rules.Notices.{is_early, is_early_frame}
-use Rattle.cany_model.proofs.Among.{Among, Among-from_map, Among-map, Among-weaker, count-grows, count-no, count-yes}
-use Rattle.cany_model.proofs.Bus.Notes.{given-Got, given-Sent, given_idle}
+use Rattle.cany_model.proofs.Among.{Among, Among-from_map, Among-map, Among-weaker}
+use Rattle.cany_model.proofs.Bus.Notes.{given_idle}
 
 -- ---- one slot
 
@@ -82,10 +76,6 @@ hidden_why inc note h =
 pub carries_other : (cycle : ℕ) (note : SlotNote) (f : FrameParts) → note.frame ≡ Some f → same_class f.class class.Rha ≡ false
     → carries_early cycle note ≡ false
 carries_other cycle note f frame other = rw (frame, other) refl
-
--- whether it carries one of an earlier cycle, its frame tells
-pub carries_frame : (cycle : ℕ) (note : SlotNote) (f : FrameParts) → note.frame ≡ Some f → carries_early cycle note ≡ is_early_frame cycle f
-carries_frame cycle note f frame = rw frame refl
 
 -- what holds of a slot as it is seen, and of no idle one, holds of the slot
 pub seen_one : (P : SlotNote → Type 0) → ((note : SlotNote) → note.frame ≡ None → P note → ⊥) → (inc : Incarnation) (note : SlotNote)
@@ -152,32 +142,6 @@ abbrev pub IsSeenPast : Incarnation → List NoticeKind → Type 0
 IsSeenPast inc [] = Unit {0}
 IsSeenPast inc (e ∷ past) = (0 < inc.number → length past < inc.from → e ≡ Idle) × IsSeenPast inc past
 
--- of the vectors that it has read, none is of a cycle before its first
-abbrev pub HearsNoEarly : Incarnation → List NoticeKind → Type 0
-HearsNoEarly inc past = 0 < inc.number → AllByRecursion (λ e. is_early inc.cycle e ≡ false) past
-
-given_early : (cycle i : ℕ) (note : SlotNote) (e : NoticeKind) → given i note ≡ e → carries_early cycle note ≡ false → is_early cycle e ≡ false
-given_early cycle i note Idle is plain = refl
-given_early cycle i note Bad is plain = refl
-given_early cycle i note (Got f) is plain = sym (carries_frame cycle note f (given-Got i note f is).0) ∙ plain
-given_early cycle i note (Sent f) is plain = sym (carries_frame cycle note f (given-Sent i note f is).0) ∙ plain
-
-heard_early : (i : ℕ) (inc : Incarnation) (note : SlotNote) → 0 < inc.number → is_early inc.cycle (given i (as_seen inc note)) ≡ false
-heard_early i inc note later = elim (cases_Bool (is_hidden inc note)) [
-  | inl hidden ↦ rw (seen_idle i inc note hidden) refl
-  | inr plain ↦
-      rw (seen_plain inc note plain)
-      (given_early inc.cycle i note (given i note) refl
-      (false_from_ne_true (carries_early inc.cycle note) (λ early. both_ways (is_hidden inc note) plain (vector_hidden inc note later early))))
-]
-
-pub hears_no_early : (i : ℕ) (inc : Incarnation) (trace : List SlotNote) → HearsNoEarly inc (map (given i) (seen inc trace))
-hears_no_early i inc [] later = tt
-hears_no_early i inc (note ∷ trace) later = (heard_early i inc note later, hears_no_early i inc trace later)
-
-pub hears_no_early_of : (i n : ℕ) (inc : Incarnation) (trace : List SlotNote) → HearsNoEarly inc (map (given i) (drop n (seen inc trace)))
-hears_no_early_of i n inc trace = subst (λ t. HearsNoEarly inc (map (given i) t)) (sym (drop_seen n inc trace)) (hears_no_early i inc (drop n trace))
-
 -- a trace whose notes say which slot they are of
 abbrev pub Numbered : List SlotNote → Type 0
 Numbered [] = Unit {0}
@@ -214,52 +178,3 @@ unfolding ended_history
 ended_history-present i s within =
     let left : length s.trace - reads s i ≡ (node_at s.nodes i).unread = omega (arith, within) in
     ap (λ n. map (given i) (drop n (seen (node_at s.nodes i).present s.trace))) left ∙ sym (history-is i s)
-
--- ---- the fault hypothesis
-
-test_seen : (p : SlotNote → Bool) → ((note : SlotNote) → note.frame ≡ None → p note ≡ false) → (inc : Incarnation) (note : SlotNote)
-    → p (as_seen inc note) ≡ true → p note ≡ true
-test_seen p none inc note h = (seen_one (λ n. p n ≡ true) (λ n f k. both_ways (p n) (none n f) k) inc note h).1
-
-pub count_seen : (p : SlotNote → Bool) → ((note : SlotNote) → note.frame ≡ None → p note ≡ false) → (inc : Incarnation) (trace : List SlotNote)
-    → count_by p (seen inc trace) ≤ count_by p trace
-count_seen p none inc [] = omega arith
-count_seen p none inc (note ∷ trace) =
-    let rest = count_seen p none inc trace in
-    elim (cases_Bool (p (as_seen inc note))) [
-      | inl here ↦
-          omega (arith, rest, count-yes p (as_seen inc note) (seen inc trace) here, count-yes p note trace (test_seen p none inc note here))
-      | inr other ↦ omega (arith, rest, count-no p (as_seen inc note) (seen inc trace) other, count-grows p note trace)
-    ]
-
-uncarried : (test : FrameParts → Bool) (b : Bool) (note : SlotNote) → note.frame ≡ None → (carried test note && b) ≡ false
-uncarried test b note none = rw none refl
-
-silent_one : (inc : Incarnation) (note : SlotNote) → is_silent_slot note ≡ false → is_silent_slot (as_seen inc note) ≡ false
-silent_one inc note quiet =
-    false_from_ne_true (is_silent_slot (as_seen inc note))
-    (λ loud. both_ways (is_silent_slot note) quiet
-    (test_seen is_silent_slot (λ n none. uncarried any_frame (is_silent n.verdict) n none) inc note loud))
-
-silent_seen : (inc : Incarnation) (trace : List SlotNote) → AllByRecursion (λ note. is_silent_slot note ≡ false) trace
-    → AllByRecursion (λ note. is_silent_slot note ≡ false) (seen inc trace)
-silent_seen inc [] quiet = tt
-silent_seen inc (note ∷ trace) quiet = (silent_one inc note quiet.0, silent_seen inc trace quiet.1)
-
-pub partial_seen : (x : Identity) (inc : Incarnation) (trace : List SlotNote) → partial_slots x (seen inc trace) ≤ partial_slots x trace
-partial_seen x inc trace =
-    count_seen (is_partial_slot_of x) (λ note none. uncarried (λ f. count_together x (identity_of f)) (is_partial note.verdict) note none) inc trace
-
--- what an incarnation sees of a run is within the hypothesis where the run is
-pub within_seen : (p : Parameters) (inc : Incarnation) (trace : List SlotNote) → IsWithin p trace → IsWithin p (seen inc trace)
-within_seen p inc trace h = record {
-  silent = All-from_recursion (λ note. is_silent_slot note ≡ false) (seen inc trace)
-      (silent_seen inc trace (recursion_from_All (λ note. is_silent_slot note ≡ false) trace h.silent));
-  omit = λ x. omega (arith, h.omit x, partial_seen x inc trace);
-  errors = λ age.
-      let window : List SlotNote = take (p.bound + p.lag) (drop age trace) in
-      let same : take (p.bound + p.lag) (drop age (seen inc trace)) ≡ seen inc window =
-      ap (take (p.bound + p.lag)) (drop_seen age inc trace) ∙ take_seen (p.bound + p.lag) inc (drop age trace) in
-      let fewer = count_seen is_error_slot (λ note none. uncarried any_frame (is_error note.verdict) note none) inc window in
-      omega (arith, ap error_slots same, h.errors age, fewer);
-}

@@ -16,8 +16,9 @@ use Rattle.cany_model.specs.Promises.Settled.{IsCorrect, IsCorrectFrom}
 use Rattle.cany_model.specs.Rules.Turn.{scenario_at, scenario_for, turn_effects}
 use Rattle.cany_model.proofs.Among.{Among, Among-weaker, Among-with}
 use Rattle.cany_model.proofs.Bus.Carried.{Carries, CarriesClean, SentBy}
-use Rattle.cany_model.proofs.Bus.Counting.{clean_from_success}
-use Rattle.cany_model.proofs.Bus.Seen.{Among-seen, Among-to_seen, Numbered, carries_other, hidden_not, history-is, within_seen}
+use Rattle.cany_model.proofs.Promises.CleanSlots.{clean_from_success}
+use Rattle.cany_model.proofs.Bus.Seen.{Among-seen, Among-to_seen, Numbered, carries_other, hidden_not, history-is}
+use Rattle.cany_model.proofs.Promises.WithinSeen.{within_seen}
 use Rattle.cany_model.proofs.Promises.Diffusion.{Duty, IsDiffused, own_carried, owed_is_carried, carried_is_read}
 use Rattle.cany_model.proofs.Promises.DiffusionRun.{NodeDiffuses}
 use Rattle.cany_model.proofs.Promises.EachNode.{EachRunning}

@@ -45,7 +45,7 @@ use Rattle.cany_model.proofs.Rules.LogFacts.{log_has, log_split, made_by}
 use Rattle.cany_model.proofs.Rules.MessageKeys.{IsOneOf}
 use Rattle.cany_model.proofs.Runs.FrameInvariants.{history_note}
 use Rattle.cany_model.proofs.Runs.Runs.{orderly}
-use Rattle.cany_model.proofs.Rules.Begun.{IsBegun}
+use Rattle.cany_model.proofs.Rules.IdleBeforeTakingPart.{IsBegun}
 use Rattle.cany_model.proofs.Rules.ProtocolFacts.{IsFoundedEntry, MayStart, is_data}
 use Rattle.cany_model.proofs.Rules.Protocols.{IsProtocol}
 

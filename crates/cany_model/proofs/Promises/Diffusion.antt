@@ -19,10 +19,10 @@ use Rattle.cany_model.specs.Bus.State.{NodeState}
 use Rattle.cany_model.specs.Bus.Waiting.{waits, without}
 use Rattle.cany_model.proofs.Among.{Among, Among-weaker, Among-with, Among-drop, Among-map, Among-either, Among-from_count, Each-weaker, count-grows, count-yes}
 use Rattle.cany_model.proofs.Bus.Carried.{Succeeds, CarriesClean, SentBy, Succeeds-from_own, Succeeds-from_sent, is_got-from, is_sent-from}
-use Rattle.cany_model.proofs.Bus.Counting.{Accepts, clean_from_copies, clean_from_success}
+use Rattle.cany_model.proofs.Promises.CleanSlots.{Accepts, clean_from_copies, clean_from_success}
 use Rattle.cany_model.proofs.Bus.Notes.{given-Sent}
 use Rattle.cany_model.proofs.Runs.Steps.{kept_at}
-use Rattle.cany_model.proofs.Runs.Waits.{Asks, Withdraws, waits_after, waits-from_after, waits-without, waits-from_without}
+use Rattle.cany_model.proofs.Rules.Waits.{Asks, Withdraws, waits_after, waits-from_after, waits-without, waits-from_without}
 
 -- what the node has read
 abbrev pub past_of : ℕ → List SlotNote → NodeState → List NoticeKind

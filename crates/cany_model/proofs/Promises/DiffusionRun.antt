@@ -17,7 +17,7 @@ use Rattle.cany_model.proofs.Among.{Among, Each-weaker}
 use Rattle.cany_model.proofs.Bus.Carried.{SentBy}
 use Rattle.cany_model.proofs.Promises.Diffusion.{Diffuses, Duty, Heard, IsDiffused, past_of, slot_diffuses, turn_diffuses}
 use Rattle.cany_model.proofs.Promises.EachNode.{EachRunning, IsNew, blank_heard, each_running}
-use Rattle.cany_model.proofs.Rules.Begun.{IsBegun}
+use Rattle.cany_model.proofs.Rules.IdleBeforeTakingPart.{IsBegun}
 
 -- what a node does for the frame, where the duty is by the scenario that its incarnation follows
 abbrev pub NodeDiffuses : ScenarioParts → ℕ → Identity → (ScenarioParts → Duty) → List SlotNote → ℕ → NodeState → Type 0

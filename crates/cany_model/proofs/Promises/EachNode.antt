@@ -6,8 +6,6 @@ use Rattle.std.proofs.lemmas.Bool.{both_ways, cases_Bool}
 use Rattle.std.proofs.lemmas.List.{length-map}
 use Rattle.cany_base.specs.declared.notice.NoticeKind.{NoticeKind}
 use Rattle.cany_base.specs.declared.notice.NoticeKind.TheVariants.{Idle, Got, Sent, Bad}
-use Rattle.cany_base.specs.declared.rule.Verdict.{Verdict}
-use Rattle.cany_base.specs.declared.rule.Verdict.TheVariants.{Clean}
 use Rattle.cany_base.specs.declared.slot_note.SlotNote.{SlotNote}
 use Rattle.cany_base.specs.declared.step.Step.{Step}
 use Rattle.cany_base.specs.Frame.{FrameParts}
@@ -27,11 +25,11 @@ use Rattle.cany_model.proofs.Bus.Restarts.{Restarts, after_restarts-trace, resta
 use Rattle.cany_model.proofs.Runs.Runs.{IsKept, IsOrderly, along_run, opening_within}
 use Rattle.cany_model.proofs.Bus.Seen.{Numbered, early_hidden, history-is, length-seen, seen_hidden, seen_idle, seen_one, seen_past, seen_plain}
 use Rattle.cany_model.proofs.Bus.States.{node_at-opening, runs_within}
-use Rattle.cany_model.proofs.Runs.Steps.{MayTurn, after_slot-present, after_slot-trace, after_slot-unread, after_slot-waiting, after_turn-history, after_turn-node, after_turn-present, after_turn-trace, each_turned, kept_at, next_notice, running_before_slot}
-use Rattle.cany_model.proofs.Runs.Waits.{Each-after, Each-kept, waits-from_with}
+use Rattle.cany_model.proofs.Runs.Steps.{MayTurn, after_slot-present, after_slot-trace, after_slot-unread, after_slot-waiting, after_turn-history, after_turn-node, after_turn-present, after_turn-trace, each_turned, kept_at, next_notice, running_before_slot, Each-kept}
+use Rattle.cany_model.proofs.Rules.Waits.{Each-after, waits-from_with}
 use Rattle.cany_model.proofs.Promises.Diffusion.{Heard, Lived, Turned, past_of}
 use Rattle.cany_model.proofs.Promises.OwnSlotsAlone.{AllWaitForOwnSlots, WaitsForOwnSlots, own_slots_alone_opening, own_slots_alone_kept, from_later, members_later, run_numbered, sent_plain}
-use Rattle.cany_model.proofs.Rules.Begun.{IsBegun, begun_first}
+use Rattle.cany_model.proofs.Rules.IdleBeforeTakingPart.{IsBegun, begun_first}
 use Rattle.cany_model.proofs.Rules.MutedFacts.{begun_later}
 use Rattle.cany_model.proofs.Rules.ProtocolFacts.{MayAsk}
 use Rattle.cany_model.proofs.Rules.TurnFacts.{turn_only}

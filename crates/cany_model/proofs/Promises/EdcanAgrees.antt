@@ -1,5 +1,5 @@
 -- Agreement of EDCAN: each node that got the frame of a message is to send it.
-use Rattle.std.proofs.Common.{◌≡◌, ℕ, ◌<◌, ◌≤◌, ◌⊎◌, inl, inr, true, false, List, ◌∷◌, Contains, ap, sym, subst, arith}
+use Rattle.std.proofs.Common.{◌≡◌, ℕ, ◌<◌, ◌≤◌, ◌⊎◌, inl, inr, false, List, ◌∷◌, Contains, ap, sym, subst, arith}
 use Rattle.cany_base.specs.Limits.{most_nodes}
 use Rattle.std.proofs.lemmas.Bool.{cases_lt, cases_Bool}
 use Rattle.cany_base.specs.declared.class.Class.TheVariants as class
@@ -9,7 +9,7 @@ use Rattle.cany_base.specs.declared.step.Step.{Step}
 use Rattle.cany_base.specs.Frame.{data_class}
 use Rattle.cany_base.specs.Scenario.{ScenarioParts}
 use Rattle.cany_model.specs.Bus.Frames.{Identity}
-use Rattle.cany_model.specs.Bus.History.{copies, has_own, is_got}
+use Rattle.cany_model.specs.Bus.History.{copies, is_got}
 use Rattle.cany_model.specs.Promises.Hypothesis.{IsWithin}
 use Rattle.cany_model.specs.Rules.Messages.{Message, messages_of, data_id}
 use Rattle.cany_model.specs.Runs.Run.{run}
@@ -20,14 +20,13 @@ use Rattle.cany_model.specs.Rules.Sends.{is_sent_at_once}
 use Rattle.cany_model.specs.Rules.Turn.{scenario_for, turn_effects}
 use Rattle.cany_model.proofs.Promises.Agreement.{owed_carried}
 use Rattle.cany_model.proofs.Promises.Agrees.{Owes, Rules, duty_of, run_agrees}
-use Rattle.cany_model.proofs.Among.{Among, count-no}
+use Rattle.cany_model.proofs.Among.{count-no}
 use Rattle.cany_model.proofs.Promises.Diffusion.{IsDiffused, copies_got, copies_grow, IsAnswered}
 use Rattle.cany_model.proofs.Rules.MessageKeys.{IsOneOf}
 use Rattle.cany_model.proofs.Rules.TurnFacts.{asks_at_its_slot, turn_withdraws, turn_cause_data, turn_relays}
-use Rattle.cany_model.proofs.Runs.Waits.{Asks}
 use Rattle.cany_model.proofs.Rules.DeliveryFacts.{DeliversAtOnce}
 use Rattle.cany_model.proofs.Rules.EdcanFacts.{edcan_delivers}
-use Rattle.cany_model.proofs.Rules.Begun.{begun_copies, begun_short}
+use Rattle.cany_model.proofs.Rules.IdleBeforeTakingPart.{begun_copies, begun_short}
 use Rattle.cany_model.proofs.Rules.ProtocolFacts.{MayStart, is_diffused}
 use Rattle.cany_model.proofs.Rules.Protocols.{edcan_is_one}
 

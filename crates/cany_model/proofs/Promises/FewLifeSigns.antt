@@ -22,7 +22,8 @@ use Rattle.cany_model.specs.Rules.Life.{is_own_sign, life_signs_sent}
 use Rattle.cany_model.specs.Rules.KnowledgeOf.{knowledge_of}
 use Rattle.cany_model.specs.Rules.Turn.{scenario_for, turn_effects}
 use Rattle.cany_model.proofs.Among.{count-cons, count-drop, count-grows}
-use Rattle.cany_model.proofs.Runs.Waits.{Each-kept, waits-without}
+use Rattle.cany_model.proofs.Rules.Waits.{waits-without}
+use Rattle.cany_model.proofs.Runs.Steps.{Each-kept}
 use Rattle.cany_model.proofs.Promises.Diffusion.{Lived, Turned, past_of}
 use Rattle.cany_model.proofs.Promises.FewLifeSignsRun.{IsNodesWithin, SendsFirst, each_within}
 use Rattle.cany_model.proofs.Promises.FewLifeSignsWaiting.{IsOwnSign, greatest_last, left, next_number, own_sign, turn_asks_due, turn_idle, turn_idle_numbers, turn_keeps, turn_more, turn_numbers, turn_partly, turn_replaces}

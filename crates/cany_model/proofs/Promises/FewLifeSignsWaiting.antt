@@ -18,7 +18,7 @@ use Rattle.cany_model.specs.Rules.KnowledgeOf.{knowledge_of}
 use Rattle.cany_model.specs.Rules.Turn.{turn_effects}
 use Rattle.cany_model.proofs.Among.{Among, Each-weaker, count-no, one_if}
 use Rattle.cany_model.proofs.Bus.Identities.{same_class-true, same_class_self, same_identity-from}
-use Rattle.cany_model.proofs.Runs.Waits.{Asks, AsksOnly, Withdraws, Each-after, waits-kept, waits-without, waits_after}
+use Rattle.cany_model.proofs.Rules.Waits.{Asks, AsksOnly, Withdraws, Each-after, waits-kept, waits-without, waits_after}
 use Rattle.cany_model.proofs.Promises.FewLifeSignsOrder.{NoneBefore}
 use Rattle.cany_model.proofs.Promises.SignCounts.{asks_more, els_asks, els_test, is_els, put_one, turn_asks, waiting_few, without_fewer, without_one}
 use Rattle.cany_model.proofs.Rules.LifeCounts.{due_in}

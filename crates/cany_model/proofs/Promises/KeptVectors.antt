@@ -24,7 +24,8 @@ use Rattle.cany_base.specs.Cycles.{is_end, is_start}
 use Rattle.cany_base.proofs.SetFacts.{meet_both}
 use Rattle.cany_model.proofs.Among.{Each-of, Each-weaker, Among-from_Contains}
 use Rattle.cany_model.proofs.Bus.Notes.{given-Sent}
-use Rattle.cany_model.proofs.Runs.Waits.{Each-after, Each-kept}
+use Rattle.cany_model.proofs.Rules.Waits.{Each-after}
+use Rattle.cany_model.proofs.Runs.Steps.{Each-kept}
 use Rattle.cany_model.proofs.Promises.Diffusion.{Lived, Turned, past_of}
 use Rattle.cany_model.proofs.Promises.EachNode.{EachRunning, IsNew, IsNodes, each_running}
 use Rattle.cany_model.proofs.Promises.LateVectors.{asks_in_cycle}

@@ -1,6 +1,6 @@
 -- A vector waits, and is carried, only after the start of its cycle.
-use Rattle.std.proofs.Common.{◌≡◌, ℕ, ◌*◌, ◌<◌, ◌≤◌, inl, inr, List, ◌∷◌, length, Some, Contains, refl, ap, sym, ◌∙◌, subst, arith}
-use Rattle.std.proofs.lemmas.Bool.{cases_Bool, false≢true}
+use Rattle.std.proofs.Common.{◌≡◌, ℕ, ◌*◌, ◌<◌, ◌≤◌, inl, inr, List, ◌∷◌, length, Some, Contains, refl, ap, sym, subst, arith}
+use Rattle.std.proofs.lemmas.Bool.{cases_Bool}
 use Rattle.cany_base.specs.Limits.{most_nodes}
 use Rattle.cany_base.specs.declared.class.Class.TheVariants as class
 use Rattle.cany_base.specs.declared.notice.NoticeKind.{NoticeKind}
@@ -24,7 +24,7 @@ use Rattle.cany_model.proofs.Bus.Seen.{Numbered, seen_idle, seen_plain}
 use Rattle.cany_model.proofs.Runs.Steps.{MayTurn, after_turn-history, after_turn-trace, next_notice}
 use Rattle.cany_model.proofs.Promises.OwnSlotsAlone.{run_numbered}
 use Rattle.cany_model.proofs.Rules.CycleFacts.{cycle_before}
-use Rattle.cany_model.proofs.Rules.ProtocolFacts.{MayAsk, accepts, confirms, data_is_no_other, exchanges, is_relayed, lives, originates, relays, request_class, requests, signals, vector_asked}
+use Rattle.cany_model.proofs.Rules.ProtocolFacts.{MayAsk, vector_asked}
 use Rattle.cany_model.proofs.Rules.TurnFacts.{turn_only}
 
 -- ---- what may be asked for

@@ -10,7 +10,7 @@ use Rattle.cany_base.specs.declared.step.Step.{Step}
 use Rattle.cany_base.specs.Frame.{data_class}
 use Rattle.cany_base.specs.Scenario.{ScenarioParts}
 use Rattle.cany_model.specs.Bus.Frames.{Identity, same_class}
-use Rattle.cany_model.specs.Bus.History.{copies, has_own, history, is_got}
+use Rattle.cany_model.specs.Bus.History.{copies, history, is_got}
 use Rattle.cany_model.specs.Promises.Hypothesis.{IsWithin}
 use Rattle.cany_model.specs.Rules.Messages.{Message, messages_of, data_id}
 use Rattle.cany_model.specs.Rules.Relcan.{confirm_of, falls_back, fell_back, has_confirm, has_copy, has_timer_ahead, is_timed, relcan}
@@ -26,16 +26,15 @@ use Rattle.cany_model.proofs.Among.{Among, Among-from_any, Among-from_count, any
 use Rattle.cany_model.proofs.Bus.Carried.{Carries, CarriesClean, Carries-from_got}
 use Rattle.cany_model.proofs.Runs.FrameInvariants.{history_among}
 use Rattle.cany_model.proofs.Promises.Confirms.{IsConfirmed, confirm_carried, confirmed}
-use Rattle.cany_model.proofs.Bus.Counting.{clean_from_success}
+use Rattle.cany_model.proofs.Promises.CleanSlots.{clean_from_success}
 use Rattle.cany_model.proofs.Promises.Diffusion.{IsDiffused, IsAnswered}
 use Rattle.cany_model.proofs.Bus.Identities.{same_class_self}
 use Rattle.cany_model.proofs.Rules.MessageKeys.{IsOneOf}
 use Rattle.cany_model.proofs.Promises.SettledFacts.{settled_none_ahead}
 use Rattle.cany_model.proofs.Rules.Timers.{overdue_falls_back}
 use Rattle.cany_model.proofs.Rules.TurnFacts.{asks_at_its_slot, rel_cause, turn_withdraws, turn_falls_back}
-use Rattle.cany_model.proofs.Runs.Waits.{Asks}
 use Rattle.cany_model.proofs.Rules.DeliveryFacts.{DeliversAtOnce}
-use Rattle.cany_model.proofs.Rules.Begun.{begun_fell_back, begun_short}
+use Rattle.cany_model.proofs.Rules.IdleBeforeTakingPart.{begun_fell_back, begun_short}
 use Rattle.cany_model.proofs.Rules.ProtocolFacts.{MayStart, is_diffused}
 use Rattle.cany_model.proofs.Rules.Protocols.{relcan_is_one}
 use Rattle.cany_model.proofs.Rules.RelcanFacts.{fell_copies, fell_stays, relcan_delivers}

@@ -27,8 +27,9 @@ use Rattle.cany_model.specs.Rules.Turn.{scenario_at, scenario_for, turn_effects}
 use Rattle.cany_model.proofs.Among.{Among, Among-from_Contains, Among-weaker, Among-which}
 use Rattle.cany_model.proofs.Bus.Carried.{Carries, CarriesClean}
 use Rattle.cany_model.proofs.Runs.Runs.{orderly}
-use Rattle.cany_model.proofs.Bus.Seen.{history-is, within_seen}
-use Rattle.cany_model.proofs.Runs.Waits.{Asks}
+use Rattle.cany_model.proofs.Bus.Seen.{history-is}
+use Rattle.cany_model.proofs.Promises.WithinSeen.{within_seen}
+use Rattle.cany_model.proofs.Rules.Waits.{Asks}
 use Rattle.cany_model.proofs.Promises.Agreement.{IsAtRest, carried_read, seen_clean}
 use Rattle.cany_model.proofs.Promises.Diffusion.{Duty, IsDiffused, owed_is_carried}
 use Rattle.cany_model.proofs.Promises.DiffusionRun.{NodeDiffuses, run_diffuses}
@@ -36,7 +37,7 @@ use Rattle.cany_model.proofs.Promises.EachNode.{EachRunning}
 use Rattle.cany_model.proofs.Promises.OwnSlotsAlone.{run_numbered}
 use Rattle.cany_model.proofs.Promises.Firsts.{carried_has_first}
 use Rattle.cany_model.proofs.Promises.SettledFacts.{each_has_read, none_waits}
-use Rattle.cany_model.proofs.Rules.Begun.{IsBegun}
+use Rattle.cany_model.proofs.Rules.IdleBeforeTakingPart.{IsBegun}
 use Rattle.cany_model.proofs.Rules.LogFacts.{log_has, log_split, made_by}
 use Rattle.cany_model.proofs.Rules.ProtocolFacts.{IsFoundedEntry}
 use Rattle.cany_model.proofs.Rules.Protocols.{failures_are_one}
@@ -100,9 +101,9 @@ known_signed scenario s i sign h =
 -- ---- a quiet state
 
 -- no running node waits with the frame
-quiet_waits : (s : RunState) (sign : FailureSign) → nobody_waits_with_sign s sign ≡ true → (i : ℕ) → runs (node_at s.nodes i) ≡ true
+nobody_waits : (s : RunState) (sign : FailureSign) → nobody_waits_with_sign s sign ≡ true → (i : ℕ) → runs (node_at s.nodes i) ≡ true
     → waits (fda_of sign) (node_at s.nodes i).waiting ≡ false
-quiet_waits s sign h i running = none_waits s (fda_of sign) [] (not-true (is_awaited (fda_of sign ∷ []) s) h) i running
+nobody_waits s sign h i running = none_waits s (fda_of sign) [] (not-true (is_awaited (fda_of sign ∷ []) s) h) i running
 
 -- ---- agreement
 
@@ -114,7 +115,7 @@ signed_carried scenario s sign within diffuses quiet i correct signed =
     let inc = (node_at s.nodes i).present in
     seen_clean (fda_of sign) s i
     (owed_is_carried scenario.params (fda_of sign) (sign_duty sign (scenario_for scenario inc)) (seen inc s.trace) i (node_at s.nodes i)
-    (diffuses i correct.running) (within_seen scenario.params inc s.trace within) (quiet_waits s sign quiet i correct.running)
+    (diffuses i correct.running) (within_seen scenario.params inc s.trace within) (nobody_waits s sign quiet i correct.running)
     (subst ((sign_duty sign (scenario_for scenario inc)).owes i) (history-is i s) (signed_known scenario s i sign signed)))
 
 -- what was carried Clean, each correct node that took part since the first slot that carried it knows
@@ -150,7 +151,7 @@ sign_agrees scenario few journal within sign = by_first (first_carried (fda_of s
       heard = sign_is_heard sign;
       rules = λ inc. sign_is_diffused (scenario_for scenario inc) sign;
       diffuses = diffuses;
-      gone = quiet_waits (run scenario journal) sign quiet;
+      gone = nobody_waits (run scenario journal) sign quiet;
       read = each_has_read (run scenario journal) read;
     }
 

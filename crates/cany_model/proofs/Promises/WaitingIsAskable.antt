@@ -39,7 +39,7 @@ use Rattle.cany_model.proofs.Bus.Notes.{given-Got, given-Sent}
 use Rattle.cany_model.proofs.Runs.Runs.{IsOrderly, history-length}
 use Rattle.cany_model.proofs.Bus.Seen.{seen_idle, seen_plain}
 use Rattle.cany_model.proofs.Runs.Steps.{MayTurn, next_notice}
-use Rattle.cany_model.proofs.Runs.Waits.{AsksOnly}
+use Rattle.cany_model.proofs.Rules.Waits.{AsksOnly}
 use Rattle.cany_model.proofs.Promises.EachNode.{EachRunning, nodes_at_first, nodes_kept}
 use Rattle.cany_model.proofs.Promises.OwnSlotsAlone.{AllWaitForOwnSlots}
 use Rattle.cany_model.proofs.Promises.SignCounts.{Counted, signs_counted, signs_spaced}

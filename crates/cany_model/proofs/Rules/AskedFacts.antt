@@ -21,7 +21,7 @@ use Rattle.cany_model.specs.Rules.Sends.{is_sent_at_once, is_sent_in, scripted_s
 use Rattle.cany_model.specs.Rules.Turn.{asks_for, has_asked, origin_effects}
 use Rattle.cany_model.proofs.Among.{Among-from_any, Among-weaker, any-from_Among}
 use Rattle.cany_model.proofs.Bus.Identities.{same_identity-from, same_identity-true}
-use Rattle.cany_model.proofs.Runs.Waits.{Asks}
+use Rattle.cany_model.proofs.Rules.Waits.{Asks}
 use Rattle.cany_model.proofs.Rules.BacklogFacts.{HasJoined, asked-few, backlog_is_lawful, next_is, next_joined}
 use Rattle.cany_model.proofs.Rules.MessageKeys.{IsOneOf}
 use Rattle.cany_model.proofs.Rules.PlaceFacts.{any_more}

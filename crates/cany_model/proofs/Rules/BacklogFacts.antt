@@ -18,7 +18,7 @@ use Rattle.cany_model.specs.Rules.Messages.{Message, messages_of, data_id, is_se
 use Rattle.cany_model.specs.Rules.Sends.{sendable}
 use Rattle.cany_model.specs.Rules.Totcan.{is_recent}
 use Rattle.cany_model.proofs.Among.{Each-append, Each-drop, Each-weaker}
-use Rattle.cany_model.proofs.Rules.Begun.{IsBegun}
+use Rattle.cany_model.proofs.Rules.IdleBeforeTakingPart.{IsBegun}
 use Rattle.cany_model.proofs.Rules.MessageKeys.{IsOneOf, is_service-true}
 use Rattle.cany_model.proofs.Rules.NoDelivery.{undelivering_is_lawful}
 use Rattle.cany_model.proofs.Rules.ProtocolFacts.{IsFounded, IsLawful, originates}

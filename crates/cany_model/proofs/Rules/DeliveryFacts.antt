@@ -2,7 +2,7 @@
 use Rattle.std.specs.Prelude.{◌≡◌, ℕ, ◌+◌, ◌≤◌, ◌==◌, ◌&&◌, ◌||◌, Bool, true, false, not, cond, if◌then◌else◌, List, [], ◌∷◌, ◌++◌, length, count_by, refl}
 use Rattle.std.specs.List.{AllByRecursion, list_any}
 use Rattle.std.proofs.Common.{sym, ap, ◌∙◌, inl, inr, arith, eqb-true}
-use Rattle.std.proofs.lemmas.Bool.{and_parts, and_from, cases_Bool, cond_both, not-true, not_from_false}
+use Rattle.std.proofs.lemmas.Bool.{and_from, and_parts, cases_Bool, cond_both, not-true, not_from_false, or_cases}
 use Rattle.std.proofs.lemmas.List.Sums.{sum_by-append}
 use Rattle.cany_base.specs.declared.log_entry.LogEntry.{LogEntry}
 use Rattle.cany_base.specs.declared.message.MsgKey.{MsgKey}
@@ -12,13 +12,14 @@ use Rattle.cany_base.specs.declared.notice.NoticeKind.TheVariants.{Idle, Got, Se
 use Rattle.cany_base.specs.Frame.{FrameParts, data_class}
 use Rattle.cany_base.specs.Scenario.{ScenarioParts}
 use Rattle.cany_model.specs.Bus.Frames.{Identity, identity_of, same_class}
+use Rattle.cany_model.specs.Bus.History.{is_got, is_sent}
 use Rattle.cany_model.specs.Promises.Entries.{delivers_key}
 use Rattle.cany_model.specs.Rules.Delivery.{brings, is_delivery, delivery, delivery_effects}
 use Rattle.cany_model.specs.Rules.Effect.{Effect, Ask, Withdraw, Enter, entered}
 use Rattle.cany_model.specs.Rules.Messages.{data_of}
 use Rattle.cany_model.specs.Rules.Protocol.{Protocol}
 use Rattle.cany_model.proofs.Among.{Among, Among-append_left, Among-append_right, Among-from_any, one_at_most, one_if}
-use Rattle.cany_model.proofs.Bus.Carried.{Has, brings-true}
+use Rattle.cany_model.proofs.Bus.Carried.{Has, is_got-true, is_sent-true}
 use Rattle.cany_model.proofs.Bus.Identities.{same_class-true, same_class_self}
 use Rattle.cany_model.proofs.Rules.ProtocolFacts.{IsFounded, log_by}
 
@@ -186,6 +187,18 @@ entry_later p scenario i by x e before h = record {
   slot = h.slot;
   stands = Among-append_left (λ y. y ≡ delivery h.slot by h.what) (log_by p scenario i before) (entered (p.effects scenario i (e ∷ before))) h.stands;
 }
+
+-- what brings a frame has it, or one of its identity
+record Brought (i : ℕ) (x : Identity) (e : NoticeKind) : Type 0 where
+  what : FrameParts
+  has : Has what e
+  identity : x ≡ identity_of what
+
+brings-true : (i : ℕ) (x : Identity) (e : NoticeKind) → brings i x e ≡ true → Brought i x e
+brings-true i x e h = elim (or_cases (is_got x e) (x.node == i && is_sent x e) h) [
+  | inl got ↦ let g = is_got-true x e got in record { what = g.what; has = inl g.was; identity = g.identity }
+  | inr sent ↦ let g = is_sent-true x e (and_parts (x.node == i) (is_sent x e) sent).1 in record { what = g.what; has = inr g.was; identity = g.identity }
+]
 
 entry_now : (p : Protocol) (by : Service) → DeliversAtOnce p by → (scenario : ScenarioParts) (i : ℕ) (x : Identity) (e : NoticeKind) (before : List NoticeKind)
     → x.class ≡ data_class by → brings i x e ≡ true → list_any (brings i x) before ≡ false → HasEntry p scenario i by x (e ∷ before)

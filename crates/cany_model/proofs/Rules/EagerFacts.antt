@@ -12,7 +12,7 @@ use Rattle.cany_model.specs.Rules.Protocol.{Protocol}
 use Rattle.cany_model.specs.Bus.Frames.{Identity, identity_of}
 use Rattle.cany_model.specs.Bus.History.{copies, has_own}
 use Rattle.cany_model.proofs.Among.{Among}
-use Rattle.cany_model.proofs.Runs.Waits.{Asks}
+use Rattle.cany_model.proofs.Rules.Waits.{Asks}
 use Rattle.cany_model.proofs.Rules.DeliveryFacts.{EntersNone}
 use Rattle.cany_model.proofs.Rules.ProtocolFacts.{IsFounded, diffused_is_relayed, enough, is_diffused, relays}
 

@@ -8,7 +8,7 @@ use Rattle.cany_model.specs.Rules.Sends.{send_effects}
 use Rattle.cany_model.specs.Rules.Turn.{has_asked, is_ahead_at, origin_effects, turn_effects}
 use Rattle.cany_model.proofs.Rules.ErrorCounts.{plain, plain-length}
 use Rattle.cany_model.proofs.Rules.ErrorMessages.{plain_backlog_effects, plain_closing_ahead, plain_edcan, plain_relcan, plain_timer_ahead, plain_totcan}
-use Rattle.cany_model.proofs.Rules.ErrorSite.{plain_asks, plain_exchange, plain_failures, plain_install, plain_life}
+use Rattle.cany_model.proofs.Rules.ErrorMembership.{plain_asks, plain_exchange, plain_failures, plain_install, plain_life}
 
 plain_sends : (scenario : ScenarioParts) (i : ℕ) (past : List NoticeKind) → send_effects scenario i (plain past) ≡ send_effects scenario i past
 unfolding send_effects

@@ -19,7 +19,7 @@ use Rattle.cany_model.specs.Rules.Views.{after_ask, start_of, with_ended}
 use Rattle.cany_model.proofs.Among.{Among, Each-weaker}
 use Rattle.cany_model.proofs.Bus.Carried.{is_got-true}
 use Rattle.cany_model.proofs.Bus.Identities.{same_class_self}
-use Rattle.cany_model.proofs.Rules.Begun.{IsBegun, begun_before}
+use Rattle.cany_model.proofs.Rules.IdleBeforeTakingPart.{IsBegun, begun_before}
 use Rattle.cany_model.proofs.Rules.KnowledgeSteps.{signs_after}
 
 -- ---- silence

@@ -13,12 +13,12 @@ use Rattle.cany_model.specs.Bus.History.{copies}
 use Rattle.cany_base.specs.Nodes.{nobody}
 use Rattle.cany_model.specs.Rules.Eager.{has_enough}
 use Rattle.cany_model.specs.Rules.Effect.{Effect, Ask, Withdraw}
-use Rattle.cany_model.specs.Rules.Life.{els_frame, failure_effects, failures_at, failure_signs, fda_copy_effects, is_due, life_effects, life_signs, sign_effects, life_signs_sent}
+use Rattle.cany_model.specs.Rules.Life.{els_frame, failure_effects, failures_at, failure_signs, fda_copy_effects, is_due, life_effects, life_signs, failure_sign_effects, life_signs_sent}
 use Rattle.cany_model.specs.Rules.KnowledgeOf.{knowledge_of}
 use Rattle.cany_model.specs.Rules.Knowledge.{FailureSign, Knowledge, after_life, fda_frame, fda_of, found, found_in, after_hearing, after_learning, has_timed_out, knows, sign_in, sign_of, told, told_in, with_signs}
 use Rattle.cany_model.proofs.Among.{Each-append, Each-filter, Each-first, Each-flat_map, Each-map, Each-second, Each-weaker}
 use Rattle.cany_model.proofs.Bus.Identities.{same_class-true}
-use Rattle.cany_model.proofs.Rules.Begun.{IsBegun, begun_before}
+use Rattle.cany_model.proofs.Rules.IdleBeforeTakingPart.{IsBegun, begun_before}
 use Rattle.cany_model.proofs.Rules.NoDelivery.{undelivering_is_lawful}
 use Rattle.cany_model.proofs.Rules.ProtocolFacts.{IsFounded, IsKnownBy, IsLawful, enough, is_diffused, lives, signals}
 use Rattle.cany_model.proofs.Rules.KnowledgeFacts.{found_none, newly_known, begun_members}
@@ -72,8 +72,8 @@ abbrev IsNew : ScenarioParts → ℕ → NoticeKind → List NoticeKind → Fail
 IsNew scenario i e past sign = IsKnownBy scenario (length past) (e ∷ past) sign × (knows sign (knowledge_of scenario i (e ∷ past)) ≡ true)
 
 sign_founded : (scenario : ScenarioParts) (i : ℕ) (e : NoticeKind) (past : List NoticeKind) (sign : FailureSign) → IsNew scenario i e past sign
-    → AllByRecursion (IsFounded scenario failure_signs i (e ∷ past)) (sign_effects scenario.params.omit (length past) (e ∷ past) sign)
-unfolding sign_effects
+    → AllByRecursion (IsFounded scenario failure_signs i (e ∷ past)) (failure_sign_effects scenario.params.omit (length past) (e ∷ past) sign)
+unfolding failure_sign_effects
 sign_founded scenario i e past sign new = (
   record { now = refl; because = new.0; known = new.1 },
   cond_both (has_enough scenario.params.omit (fda_of sign) (e ∷ past)) [] (Ask (fda_frame sign) ∷ [])
@@ -83,11 +83,11 @@ sign_founded scenario i e past sign new = (
 
 signs_founded : (scenario : ScenarioParts) (i : ℕ) (e : NoticeKind) (past : List NoticeKind) (signs : List FailureSign)
     → AllByRecursion (IsNew scenario i e past) signs
-    → AllByRecursion (IsFounded scenario failure_signs i (e ∷ past)) (flat_map (sign_effects scenario.params.omit (length past) (e ∷ past)) signs)
+    → AllByRecursion (IsFounded scenario failure_signs i (e ∷ past)) (flat_map (failure_sign_effects scenario.params.omit (length past) (e ∷ past)) signs)
 signs_founded scenario i e past signs new =
-    Each-flat_map (sign_effects scenario.params.omit (length past) (e ∷ past)) (IsFounded scenario failure_signs i (e ∷ past)) signs
+    Each-flat_map (failure_sign_effects scenario.params.omit (length past) (e ∷ past)) (IsFounded scenario failure_signs i (e ∷ past)) signs
     (Each-weaker (IsNew scenario i e past)
-    (λ sign. AllByRecursion (IsFounded scenario failure_signs i (e ∷ past)) (sign_effects scenario.params.omit (length past) (e ∷ past) sign))
+    (λ sign. AllByRecursion (IsFounded scenario failure_signs i (e ∷ past)) (failure_sign_effects scenario.params.omit (length past) (e ∷ past) sign))
     (λ sign k. sign_founded scenario i e past sign k) signs new)
 
 copy_founded : (scenario : ScenarioParts) (i : ℕ) (e : NoticeKind) (past : List NoticeKind)
@@ -118,7 +118,7 @@ failures_founded scenario i [] = tt
 failures_founded scenario i (e ∷ past) =
     let p : Parameters = scenario.params in
     let st : Knowledge = knowledge_of scenario i past in
-    let each : FailureSign → List Effect = sign_effects p.omit (length past) (e ∷ past) in
+    let each : FailureSign → List Effect = failure_sign_effects p.omit (length past) (e ∷ past) in
     let signs : List FailureSign = told_in i (length past) e st in
     let more : List FailureSign = found_in p i (length past) e st in
     let P : Effect → Type 0 = IsFounded scenario failure_signs i (e ∷ past) in
@@ -136,7 +136,7 @@ failures_founded scenario i (e ∷ past) =
 -- at an idle notice only silence brings signs
 idle_failures : (scenario : ScenarioParts) (i : ℕ) (past : List NoticeKind)
     → failure_effects scenario i (Idle ∷ past)
-    ≡ flat_map (sign_effects scenario.params.omit (length past) (Idle ∷ past)) (found scenario.params i (length past) (knowledge_of scenario i past))
+    ≡ flat_map (failure_sign_effects scenario.params.omit (length past) (Idle ∷ past)) (found scenario.params i (length past) (knowledge_of scenario i past))
 unfolding failure_effects failures_at told fda_copy_effects with_signs after_life
 idle_failures scenario i past = refl
 
@@ -146,7 +146,7 @@ failures_muted scenario i e past begun =
     let none : (knowledge_of scenario i past).members ≡ nobody =
     begun_members scenario i past (begun_before scenario e past begun) ∙ begun.outside (omega arith) in
     ap (λ n. failure_effects scenario i (n ∷ past)) begun.idle.0 ∙ idle_failures scenario i past
-    ∙ ap (flat_map (sign_effects scenario.params.omit (length past) (Idle ∷ past)))
+    ∙ ap (flat_map (failure_sign_effects scenario.params.omit (length past) (Idle ∷ past)))
     (found_none scenario.params i (length past) (knowledge_of scenario i past) none)
 
 pub failures_are_lawful : IsLawful failure_signs

@@ -15,7 +15,7 @@ use Rattle.cany_model.specs.Rules.Protocol.{Protocol}
 use Rattle.cany_model.proofs.Among.{Each-weaker}
 use Rattle.cany_model.proofs.Bus.Identities.{same_class-true}
 use Rattle.cany_model.proofs.Rules.ProtocolFacts.{IsFounded, IsLawful}
-use Rattle.cany_model.proofs.Runs.Waits.{AsksOnly}
+use Rattle.cany_model.proofs.Rules.Waits.{AsksOnly}
 
 abbrev pub is_of_message : Class → Bool
 is_of_message class.Accept = true

@@ -8,7 +8,7 @@ use Rattle.cany_model.specs.Bus.State.{Incarnation}
 use Rattle.cany_model.specs.Rules.Protocol.{Protocol}
 use Rattle.cany_model.specs.Rules.Turn.{protocols, turn_effects}
 use Rattle.cany_model.proofs.Bus.Seen.{IsSeenPast}
-use Rattle.cany_model.proofs.Rules.Begun.{AreIdle, IsBegun}
+use Rattle.cany_model.proofs.Rules.IdleBeforeTakingPart.{AreIdle, IsBegun}
 use Rattle.cany_model.proofs.Rules.ProtocolFacts.{IsLawful}
 use Rattle.cany_model.proofs.Rules.Protocols.{are_lawful}
 

@@ -31,8 +31,8 @@ use Rattle.cany_base.specs.Cycles.{cycle_of, is_end, is_exchange, is_start}
 use Rattle.cany_model.specs.Rules.Views.{ask_frame, ask_of as ask_id}
 use Rattle.cany_model.proofs.Among.{Among, Among-gives, Among-weaker, Among-with, count-from_Among}
 use Rattle.cany_model.proofs.Bus.Carried.{Has, is_got-from}
-use Rattle.cany_model.proofs.Runs.Waits.{Asks, Withdraws, AsksOnly}
-use Rattle.cany_model.proofs.Rules.Begun.{IsBegun}
+use Rattle.cany_model.proofs.Rules.Waits.{Asks, Withdraws, AsksOnly}
+use Rattle.cany_model.proofs.Rules.IdleBeforeTakingPart.{IsBegun}
 use Rattle.cany_model.proofs.Rules.MessageKeys.{IsOneOf, same_message}
 
 -- ---- one effect

@@ -21,8 +21,8 @@ use Rattle.cany_model.specs.Rules.Relcan.{confirm_frame, confirm_effects, fall_b
 use Rattle.cany_model.proofs.Among.{Among, Among-append_right, Among-get_or, Among-gives, Among-with, Each-append, count-drop, count-grows, count-yes}
 use Rattle.cany_model.proofs.Bus.Carried.{is_got-true}
 use Rattle.cany_model.proofs.Bus.Identities.{same_class-true}
-use Rattle.cany_model.proofs.Runs.Waits.{Asks, AsksOnly}
-use Rattle.cany_model.proofs.Rules.Begun.{AreIdle, idle_at}
+use Rattle.cany_model.proofs.Rules.Waits.{Asks, AsksOnly}
+use Rattle.cany_model.proofs.Rules.IdleBeforeTakingPart.{AreIdle, idle_at}
 use Rattle.cany_model.proofs.Rules.DeliveryFacts.{DeliversAtOnce, EntersNone, delivers_once, delivery_enters, delivery_founded, entered-append, entered-none, entries_at}
 use Rattle.cany_model.proofs.Rules.ProtocolFacts.{IsFounded, IsLawful, confirms, enough, is_diffused, is_relayed, relays}
 

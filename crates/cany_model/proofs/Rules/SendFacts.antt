@@ -12,8 +12,8 @@ use Rattle.cany_model.specs.Rules.Effect.{Ask, entered}
 use Rattle.cany_model.specs.Rules.Messages.{Message, messages_of, data_frame, data_id}
 use Rattle.cany_model.specs.Rules.Sends.{is_sent_in, is_sent_at_once, scripted_sends, send_effects, sendable}
 use Rattle.cany_model.proofs.Among.{Among}
-use Rattle.cany_model.proofs.Runs.Waits.{Asks}
-use Rattle.cany_model.proofs.Rules.Begun.{IsBegun}
+use Rattle.cany_model.proofs.Rules.Waits.{Asks}
+use Rattle.cany_model.proofs.Rules.IdleBeforeTakingPart.{IsBegun}
 use Rattle.cany_model.proofs.Rules.MessageKeys.{IsOneOf, same_message}
 use Rattle.cany_model.proofs.Rules.NoDelivery.{undelivering_is_lawful}
 use Rattle.cany_model.proofs.Rules.ProtocolFacts.{IsFounded, IsLawful, MayStart, originates}

@@ -11,11 +11,11 @@ use Rattle.cany_model.specs.Bus.History.{copies}
 use Rattle.cany_model.specs.Promises.Entries.{tells_of}
 use Rattle.cany_model.specs.Rules.Eager.{has_enough}
 use Rattle.cany_model.specs.Rules.Effect.{Effect, Ask, Withdraw, entered}
-use Rattle.cany_model.specs.Rules.Life.{failure_effects, failures_at, failure_signs, fda_copy_effects, sign_effects}
+use Rattle.cany_model.specs.Rules.Life.{failure_effects, failures_at, failure_signs, fda_copy_effects, failure_sign_effects}
 use Rattle.cany_model.specs.Rules.KnowledgeOf.{knowledge_of}
 use Rattle.cany_model.specs.Rules.Knowledge.{FailureSign, Knowledge, fda_frame, fda_of, found_in, knows, same_sign, told_in}
 use Rattle.cany_model.proofs.Among.{Among, Among-append_cases, Among-append_left, Among-append_right, Among-flat_map, Among-from_flat_map}
-use Rattle.cany_model.proofs.Runs.Waits.{Asks}
+use Rattle.cany_model.proofs.Rules.Waits.{Asks}
 use Rattle.cany_model.proofs.Rules.LogFacts.{EntersSome, entered-to}
 use Rattle.cany_model.proofs.Rules.ProtocolFacts.{log_by}
 use Rattle.cany_model.proofs.Rules.KnowledgeFacts.{fda_one, known_after, newly, same_sign-from, same_sign-true, tells}
@@ -27,7 +27,7 @@ module _ (P : Effect → Type 0) (scenario : ScenarioParts) (i : ℕ) (e : Notic
   known = knowledge_of scenario i past
 
   abbrev each : FailureSign → List Effect
-  each sign = sign_effects scenario.params.omit (length past) (e ∷ past) sign
+  each sign = failure_sign_effects scenario.params.omit (length past) (e ∷ past) sign
 
   abbrev copied : List Effect
   copied = fda_copy_effects scenario.params.omit e (e ∷ past)
@@ -59,16 +59,16 @@ module _ (P : Effect → Type 0) (scenario : ScenarioParts) (i : ℕ) (e : Notic
     | inr late ↦ Among-append_right P (flat_map each told_now ++ copied) (flat_map each found_now) (Among-flat_map each P found_now late)
   ]
 
-pub asks_of_sign : (omit slot : ℕ) (past : List NoticeKind) (a b : FailureSign) → Among (Asks (fda_of a)) (sign_effects omit slot past b) → a ≡ b
-unfolding sign_effects
+pub asks_of_sign : (omit slot : ℕ) (past : List NoticeKind) (a b : FailureSign) → Among (Asks (fda_of a)) (failure_sign_effects omit slot past b) → a ≡ b
+unfolding failure_sign_effects
 asks_of_sign omit slot past a b (inl none) = absurd none
 asks_of_sign omit slot past a b (inr rest) =
     cond_both (has_enough omit (fda_of b) past) [] (Ask (fda_frame b) ∷ []) (λ es. Among (Asks (fda_of a)) es → a ≡ b)
     (λ _ k. absurd k) (λ _ k. elim k [ inl e ↦ fda_one a b e | inr none ↦ absurd none ]) rest
 
 sign_asked : (omit slot : ℕ) (past : List NoticeKind) (a b : FailureSign) → a ≡ b
-    → Among (Asks (fda_of a)) (sign_effects omit slot past b) ⊎ (omit < copies (fda_of a) past)
-unfolding sign_effects
+    → Among (Asks (fda_of a)) (failure_sign_effects omit slot past b) ⊎ (omit < copies (fda_of a) past)
+unfolding failure_sign_effects
 sign_asked omit slot past a b e =
     cond_both (has_enough omit (fda_of b) past) [] (Ask (fda_frame b) ∷ []) (λ es. (⊥ ⊎ Among (Asks (fda_of a)) es) ⊎ (omit < copies (fda_of a) past))
     (λ many.
@@ -106,7 +106,7 @@ pub sign_is_asked : (scenario : ScenarioParts) (i : ℕ) (e : NoticeKind) (past 
 sign_is_asked scenario i e past sign h =
     let st : Knowledge = knowledge_of scenario i past in
     let signs : List FailureSign = newly scenario.params i (length past) e st in
-    let P : FailureSign → Type 0 = λ b. Among (Asks (fda_of sign)) (sign_effects scenario.params.omit (length past) (e ∷ past) b) in
+    let P : FailureSign → Type 0 = λ b. Among (Asks (fda_of sign)) (failure_sign_effects scenario.params.omit (length past) (e ∷ past) b) in
     elim (or_cases (tells sign signs) (knows sign st) (sym (known_after scenario i e past sign) ∙ h)) [
       | inr before ↦ inl before
       | inl now ↦
@@ -128,14 +128,14 @@ asked_is_known scenario i (e ∷ past) sign h =
       | inl asks ↦
           known_after scenario i e past sign
           ∙ or_left (tells sign signs) (knows sign st)
-          (tells_from sign (λ b. Among (Asks (fda_of sign)) (sign_effects scenario.params.omit (length past) (e ∷ past) b))
+          (tells_from sign (λ b. Among (Asks (fda_of sign)) (failure_sign_effects scenario.params.omit (length past) (e ∷ past) b))
           (λ b k. asks_of_sign scenario.params.omit (length past) (e ∷ past) sign b k) signs asks)
     ]
 
 -- ---- what is entered of it
 
-entry_of_sign : (omit slot : ℕ) (past : List NoticeKind) (a b : FailureSign) → a ≡ b → Among (EntersSome (tells_of a)) (sign_effects omit slot past b)
-unfolding sign_effects
+entry_of_sign : (omit slot : ℕ) (past : List NoticeKind) (a b : FailureSign) → a ≡ b → Among (EntersSome (tells_of a)) (failure_sign_effects omit slot past b)
+unfolding failure_sign_effects
 entry_of_sign omit slot past a b e = inl (ap (λ (s : FailureSign). s.node) (sym e), ap (λ (s : FailureSign). s.cycle) (sym e))
 
 -- a sign that is known was entered
@@ -146,7 +146,7 @@ known_is_entered scenario i sign [] h = absurd (false≢true h)
 known_is_entered scenario i sign (e ∷ past) h =
     let st : Knowledge = knowledge_of scenario i past in
     let signs : List FailureSign = newly scenario.params i (length past) e st in
-    let P : FailureSign → Type 0 = λ b. Among (EntersSome (tells_of sign)) (sign_effects scenario.params.omit (length past) (e ∷ past) b) in
+    let P : FailureSign → Type 0 = λ b. Among (EntersSome (tells_of sign)) (failure_sign_effects scenario.params.omit (length past) (e ∷ past) b) in
     let effects : List Effect = failure_effects scenario i (e ∷ past) in
     elim (or_cases (tells sign signs) (knows sign st) (sym (known_after scenario i e past sign) ∙ h)) [
       | inr before ↦ Among-append_left (tells_of sign) (log_by failure_signs scenario i past) (entered effects) (known_is_entered scenario i sign past before)

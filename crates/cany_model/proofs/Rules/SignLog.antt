@@ -12,7 +12,7 @@ use Rattle.cany_base.specs.Params.{Parameters}
 use Rattle.cany_base.specs.Scenario.{ScenarioParts}
 use Rattle.cany_model.specs.Bus.Frames.{same_class}
 use Rattle.cany_model.specs.Rules.Effect.{Effect, entered}
-use Rattle.cany_model.specs.Rules.Life.{failure_effects, failures_at, fda_copy_effects, sign_effects}
+use Rattle.cany_model.specs.Rules.Life.{failure_effects, failures_at, fda_copy_effects, failure_sign_effects}
 use Rattle.cany_model.specs.Rules.Log.{log_from}
 use Rattle.cany_model.specs.Rules.Membership.{views}
 use Rattle.cany_model.specs.Rules.KnowledgeOf.{knowledge_of}
@@ -105,15 +105,15 @@ module _ (sign : FailureSign) where
       λ k. record { node = (sym node) k; cycle = (sym cycle) k }
 
   signs_enter : (omit slot : ℕ) (past : List NoticeKind) (signs : List FailureSign)
-      → count (entered (flat_map (sign_effects omit slot past) signs)) ≡ count_by is_it signs
+      → count (entered (flat_map (failure_sign_effects omit slot past) signs)) ≡ count_by is_it signs
   unfolding entered
   signs_enter omit slot past [] = refl
   signs_enter omit slot past (s ∷ signs) =
-      ap count (entered-append (sign_effects omit slot past s) (flat_map (sign_effects omit slot past) signs))
-      ∙ ap (λ entries. count (entries ++ entered (flat_map (sign_effects omit slot past) signs))) (sign_enters omit slot past s)
+      ap count (entered-append (failure_sign_effects omit slot past s) (flat_map (failure_sign_effects omit slot past) signs))
+      ∙ ap (λ entries. count (entries ++ entered (flat_map (failure_sign_effects omit slot past) signs))) (sign_enters omit slot past s)
       ∙ omega (
         arith,
-        count-cons (is_entry_of sign) (Failed slot s.node s.cycle) (entered (flat_map (sign_effects omit slot past) signs)),
+        count-cons (is_entry_of sign) (Failed slot s.node s.cycle) (entered (flat_map (failure_sign_effects omit slot past) signs)),
         count-cons is_it s signs,
         signs_enter omit slot past signs,
       )
@@ -124,7 +124,7 @@ module _ (sign : FailureSign) where
       + count_by is_it (found_in scenario.params i (length past) e (knowledge_of scenario i past))
   unfolding failure_effects failures_at
   failures_enter scenario i e past =
-      let each : FailureSign → List Effect = sign_effects scenario.params.omit (length past) (e ∷ past) in
+      let each : FailureSign → List Effect = failure_sign_effects scenario.params.omit (length past) (e ∷ past) in
       let copied : List Effect = fda_copy_effects scenario.params.omit e (e ∷ past) in
       let told_now : List FailureSign = told_in i (length past) e (knowledge_of scenario i past) in
       let found_now : List FailureSign = found_in scenario.params i (length past) e (knowledge_of scenario i past) in

@@ -24,7 +24,7 @@ use Rattle.cany_model.specs.Rules.Totcan.{accept_effects, accept_frame, after_pl
 use Rattle.cany_model.proofs.Among.{Among, Among-from_count, Among-get_or, Among-gives, Among-weaker, Among-with, Each-append, Each-filter, Each-weaker, any-from_Among, count-cons, count-no, count-yes}
 use Rattle.cany_model.proofs.Bus.Carried.{Has}
 use Rattle.cany_model.proofs.Bus.Identities.{same_class-true, same_identity-from}
-use Rattle.cany_model.proofs.Rules.Begun.{AreIdle, idle_at}
+use Rattle.cany_model.proofs.Rules.IdleBeforeTakingPart.{AreIdle, idle_at}
 use Rattle.cany_model.proofs.Rules.DeliveryFacts.{EntersNone, entered-append, entered-none}
 use Rattle.cany_model.proofs.Rules.EagerFacts.{eager_enters}
 use Rattle.cany_model.proofs.Rules.PlaceFacts.{recent-more, tot_in-brings, tot_in-holds}

@@ -19,7 +19,7 @@ use Rattle.cany_model.specs.Rules.Delivery.{delivery, is_delivery}
 use Rattle.cany_model.specs.Rules.Eager.{has_enough}
 use Rattle.cany_model.specs.Rules.Edcan.{edcan}
 use Rattle.cany_model.specs.Rules.Effect.{Effect, Ask, Withdraw, entered}
-use Rattle.cany_model.specs.Rules.Life.{els_frame, failure_effects, failures_at, failure_signs, fda_copy_effects, is_due, life_effects, life_signs, sign_effects, life_signs_sent}
+use Rattle.cany_model.specs.Rules.Life.{els_frame, failure_effects, failures_at, failure_signs, fda_copy_effects, is_due, life_effects, life_signs, failure_sign_effects, life_signs_sent}
 use Rattle.cany_model.specs.Rules.Membership.{scripted_asks, vectors, views}
 use Rattle.cany_model.specs.Rules.Protocol.{Protocol}
 use Rattle.cany_model.specs.Rules.Relcan.{relcan}
@@ -73,8 +73,8 @@ copy_enters omit (Got f) past =
     (λ _. (tt, tt)) (λ _. tt)
 
 pub sign_enters : (omit slot : ℕ) (past : List NoticeKind) (s : FailureSign)
-    → entered (sign_effects omit slot past s) ≡ Failed slot s.node s.cycle ∷ []
-unfolding sign_effects entered
+    → entered (failure_sign_effects omit slot past s) ≡ Failed slot s.node s.cycle ∷ []
+unfolding failure_sign_effects entered
 sign_enters omit slot past s =
     ap (λ rest. Failed slot s.node s.cycle ∷ rest)
     (entered-none (if has_enough omit (fda_of s) past then [] else Ask (fda_frame s) ∷ [])
@@ -86,11 +86,11 @@ IsOfSign (Failed slot node cycle) = Unit {0}
 IsOfSign (View slot number members) = ⊥
 
 signs_enter : (omit slot : ℕ) (past : List NoticeKind) (signs : List FailureSign)
-    → AllByRecursion IsOfSign (entered (flat_map (sign_effects omit slot past) signs))
+    → AllByRecursion IsOfSign (entered (flat_map (failure_sign_effects omit slot past) signs))
 unfolding entered
 signs_enter omit slot past [] = tt
 signs_enter omit slot past (s ∷ signs) =
-    rw (entered-append (sign_effects omit slot past s) (flat_map (sign_effects omit slot past) signs), sign_enters omit slot past s)
+    rw (entered-append (failure_sign_effects omit slot past s) (flat_map (failure_sign_effects omit slot past) signs), sign_enters omit slot past s)
     (tt, signs_enter omit slot past signs)
 
 pub failures_enter : (scenario : ScenarioParts) (i : ℕ) (past : List NoticeKind)
@@ -98,7 +98,7 @@ pub failures_enter : (scenario : ScenarioParts) (i : ℕ) (past : List NoticeKin
 unfolding failure_effects failures_at entered
 failures_enter scenario i [] = tt
 failures_enter scenario i (e ∷ past) =
-    let each : FailureSign → List Effect = sign_effects scenario.params.omit (length past) (e ∷ past) in
+    let each : FailureSign → List Effect = failure_sign_effects scenario.params.omit (length past) (e ∷ past) in
     let copied : List Effect = fda_copy_effects scenario.params.omit e (e ∷ past) in
     let told_now : List Effect = flat_map each (told_in i (length past) e (knowledge_of scenario i past)) in
     let found_now : List Effect = flat_map each (found_in scenario.params i (length past) e (knowledge_of scenario i past)) in

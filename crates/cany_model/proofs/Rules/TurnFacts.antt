@@ -21,7 +21,7 @@ use Rattle.cany_model.specs.Rules.Sends.{is_sent_at_once, scripted_sends}
 use Rattle.cany_model.specs.Rules.Totcan.{totcan}
 use Rattle.cany_model.specs.Rules.Turn.{protocols, turn_effects}
 use Rattle.cany_model.proofs.Among.{Among, Among-flat_map, Among-from_flat_map, Among-weaker, Among-which, Among-with, Each-flat_map, Each-weaker}
-use Rattle.cany_model.proofs.Runs.Waits.{Asks, Withdraws, AsksOnly}
+use Rattle.cany_model.proofs.Rules.Waits.{Asks, Withdraws, AsksOnly}
 use Rattle.cany_model.proofs.Rules.BacklogFacts.{backlog_is_lawful}
 use Rattle.cany_model.proofs.Rules.EdcanFacts.{edcan_is_lawful, edcan_relays}
 use Rattle.cany_model.proofs.Rules.LifeFacts.{failures_are_lawful, life_is_lawful}

@@ -22,7 +22,7 @@ use Rattle.cany_base.specs.Cycles.{cycle_of, is_end, is_exchange, is_start}
 use Rattle.cany_model.specs.Rules.Views.{start_of, start_vector}
 use Rattle.cany_model.proofs.Among.{Each-append}
 use Rattle.cany_model.proofs.Bus.Identities.{same_class-true}
-use Rattle.cany_model.proofs.Rules.Begun.{IsBegun, begun_before}
+use Rattle.cany_model.proofs.Rules.IdleBeforeTakingPart.{IsBegun, begun_before}
 use Rattle.cany_model.proofs.Rules.NoDelivery.{undelivering_is_lawful}
 use Rattle.cany_model.proofs.Rules.ProtocolFacts.{IsExchanged, IsFounded, IsLawful, IsTaken, exchanges, settles}
 use Rattle.cany_model.proofs.Rules.KnowledgeFacts.{begun_knowledge, outside, outside_installs}

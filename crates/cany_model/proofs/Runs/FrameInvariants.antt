@@ -24,8 +24,8 @@ use Rattle.cany_model.proofs.Bus.Restarts.{after_restarts-trace, restarts_or_sta
 use Rattle.cany_model.proofs.Runs.Runs.{IsKept, IsOrderly, along_run, opening_within}
 use Rattle.cany_model.proofs.Bus.Seen.{Among-seen, history-is}
 use Rattle.cany_model.proofs.Bus.States.{no_note, note_at, node_at-opening, runs_within}
-use Rattle.cany_model.proofs.Runs.Steps.{MayTurn, next_notice, after_slot-trace, after_slot-waiting, running_before_slot, after_turn-trace, after_turn-node, after_turn-history, each_turned}
-use Rattle.cany_model.proofs.Runs.Waits.{AsksOnly, Each-kept, Each-after}
+use Rattle.cany_model.proofs.Runs.Steps.{MayTurn, next_notice, after_slot-trace, after_slot-waiting, running_before_slot, after_turn-trace, after_turn-node, after_turn-history, each_turned, Each-kept}
+use Rattle.cany_model.proofs.Rules.Waits.{AsksOnly, Each-after}
 
 -- what is said of a frame that waits at a node, and of one that a slot carried
 abbrev pub OfWaiting : Type 1

@@ -1,5 +1,5 @@
 -- What holds of the incarnation of the opening, and of each that begins, holds of the present one of each node of every run.
-use Rattle.std.proofs.Common.{◌≡◌, ℕ, ◌≤◌, inl, inr, List, length, sym, subst}
+use Rattle.std.proofs.Common.{ℕ, ◌≤◌, inl, inr, List, length, sym, subst}
 use Rattle.std.proofs.lemmas.Bool.{cases_lt}
 use Rattle.std.proofs.lemmas.List.{length-replicate}
 use Rattle.cany_base.specs.declared.step.Step.{Step}

@@ -1,5 +1,6 @@
 -- What a slot and a turn change and what they leave: facts for invariants, at every verdict rule.
 use Rattle.std.specs.Prelude.{◌≡◌, ℕ, suc, ◌+◌, ◌-◌, ◌<◌, ◌≤◌, ◌≢◌, Bool, true, false, if◌then◌else◌, List, ◌∷◌, Some, None, is_none, length, map, drop, slice_set, Contains, refl}
+use Rattle.std.specs.List.{AllByRecursion}
 use Rattle.std.proofs.Common.{sym, ap, ◌∙◌, subst, inl, inr, arith, add-one}
 use Rattle.std.proofs.lemmas.Bool.{false≢true, cases_lt, cases_eq}
 use Rattle.std.proofs.lemmas.List.{length-set, drop_more}
@@ -24,6 +25,7 @@ use Rattle.cany_model.specs.Runs.Run.{after_turn}
 use Rattle.cany_model.proofs.Among.{Contains-cons, Contains-head}
 use Rattle.cany_model.proofs.Bus.Seen.{history-is, length-seen}
 use Rattle.cany_model.proofs.Rules.IncarnationFacts.{effects_for-is}
+use Rattle.cany_model.proofs.Rules.Waits.{Each-without}
 use Rattle.cany_model.proofs.Bus.States.{length-nodes_after, no_note, node_at-nodes_after, node_at-set_other, node_at-set_same, node_at_past, note_at, runs_within}
 
 -- ---- a slot
@@ -34,6 +36,13 @@ kept_at notice.Idle waiting = waiting
 kept_at (Got f) waiting = waiting
 kept_at (Sent f) waiting = without (identity_of f) waiting
 kept_at Bad waiting = waiting
+
+-- a property of every waiting frame is kept
+pub Each-kept : (P : FrameParts → Type 0) (notice : NoticeKind) (w : List FrameParts) → AllByRecursion P w → AllByRecursion P (kept_at notice w)
+Each-kept P notice.Idle w h = h
+Each-kept P (Got f) w h = h
+Each-kept P (Sent f) w h = Each-without P (identity_of f) w h
+Each-kept P Bad w h = h
 
 after_share-waiting : (share : Share) (node : NodeState) → (after_share share node).waiting ≡ kept_at (notice_of share) node.waiting
 unfolding after_share

@@ -1,11 +1,12 @@
 -- What is promised of a run. Its last definition, `IsSafe`, is the promise of a run within the fault hypothesis, in five parts. They speak
 -- of the logs of correct nodes: of the sets of messages and of failure signs in them, of one list, the order of TOTCAN, and of one table,
 -- that of the views by their numbers.
-use Rattle.std.specs.Prelude.{◌≡◌, ℕ, ◌/◌, ◌&&◌, ◌<◌, ◌≤◌, true, Option, Some, None, List, Contains, count_by, ◌⊎◌}
+use Rattle.std.specs.Prelude.{◌≡◌, ℕ, ◌&&◌, ◌<◌, ◌≤◌, true, Option, Some, None, List, Contains, count_by, ◌⊎◌}
 use Rattle.cany_base.specs.declared.log_entry.LogEntry.{LogEntry}
 use Rattle.cany_base.specs.declared.log_entry.LogEntry.TheVariants.{Deliver, Failed, View}
 use Rattle.cany_base.specs.declared.message.MsgKey.{MsgKey}
 use Rattle.cany_base.specs.declared.slot_note.SlotNote.{SlotNote}
+use Rattle.cany_base.specs.Cycles.{cycle_of}
 use Rattle.cany_base.specs.Nodes.{has}
 use Rattle.cany_base.specs.Scenario.{ScenarioParts}
 use Rattle.cany_model.specs.Runs.Run.{all_read}
@@ -35,8 +36,8 @@ abbrev pub IsSound : ScenarioParts → RunState → LogEntry → Type 0
 IsSound scenario s (Deliver slot service msg payload) =
     (m : Message) × Contains (messages_of scenario.sends) m × (message_key m ≡ msg) × (m.service ≡ service)
     × (m.payload ≡ payload) × WasSent s.trace m slot
-IsSound scenario s (Failed slot node cycle) = (node < scenario.params.nodes) × (cycle ≤ slot / scenario.params.cycle)
-IsSound scenario s (View slot number members) = number ≡ slot / scenario.params.cycle
+IsSound scenario s (Failed slot node cycle) = (node < scenario.params.nodes) × (cycle ≤ cycle_of scenario.params slot)
+IsSound scenario s (View slot number members) = number ≡ cycle_of scenario.params slot
 
 -- no message twice or unsent in the log of a correct node, and no failure of a node that is not there
 pub record IsIntegral (scenario : ScenarioParts) (s : RunState) : Type 0 where

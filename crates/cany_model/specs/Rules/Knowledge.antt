@@ -1,9 +1,10 @@
 -- What a node knows of the site from what it has read: who the members are, which nodes have failed, and when each last showed life.
-use Rattle.std.specs.Prelude.{ℕ, ◌-◌, ◌/◌, ◌==◌, ◌&&◌, ◌||◌, Bool, not, nat_le, if◌then◌else◌, List, [], ◌∷◌, filter, map, Option, None}
+use Rattle.std.specs.Prelude.{ℕ, ◌-◌, ◌==◌, ◌&&◌, ◌||◌, Bool, false, not, nat_le, if◌then◌else◌, List, [], ◌∷◌, filter, map, Option, None}
 use Rattle.std.specs.List.{list_any, range_with_len}
 use Rattle.cany_base.specs.declared.class.Class.TheVariants as class
 use Rattle.cany_base.specs.declared.notice.NoticeKind.{NoticeKind}
 use Rattle.cany_base.specs.declared.notice.NoticeKind.TheVariants.{Idle, Got, Sent, Bad}
+use Rattle.cany_base.specs.Cycles.{cycle_of}
 use Rattle.cany_base.specs.Frame.{FrameParts}
 use Rattle.cany_base.specs.Nodes.{Nodes, has, those_where, nobody}
 use Rattle.cany_base.specs.Params.{Parameters}
@@ -73,6 +74,13 @@ with_members members knowledge = record knowledge { members = members }
 unfoldable pub shows_life : FrameParts → Bool
 shows_life f = same_class f.class class.Els || same_class f.class class.Rha || same_class f.class class.Tot
 
+-- whether the notice is that the node got a frame by which node r shows life
+abbrev pub hears_life : ℕ → NoticeKind → Bool
+hears_life r Idle = false
+hears_life r (Got f) = shows_life f && r == f.node
+hears_life r (Sent f) = false
+hears_life r Bad = false
+
 abbrev pub with_shown : ℕ → ℕ → Knowledge → Knowledge
 with_shown r slot knowledge = record knowledge { shown = λ q. if q == r then slot else knowledge.shown q }
 
@@ -117,7 +125,7 @@ has_timed_out p i slot knowledge r =
 
 -- the sign by which a node is found to have failed in a slot
 abbrev pub sign_in : Parameters → ℕ → ℕ → FailureSign
-sign_in p slot r = record { node = r; cycle = slot / p.cycle }
+sign_in p slot r = record { node = r; cycle = cycle_of p slot }
 
 -- the signs that silence brings, where they are not known, by ascending node
 unfoldable pub found : Parameters → ℕ → ℕ → Knowledge → List FailureSign

@@ -19,8 +19,8 @@ use Rattle.cany_model.specs.Rules.Knowledge.{FailureSign, Knowledge, fda_frame, 
 
 -- A sign that becomes known is entered, and its frame is asked for, unless more than omit copies of it were read. So one that silence
 -- brought is asked for once, and not again at a copy.
-unfoldable pub sign_effects : ℕ → ℕ → List NoticeKind → FailureSign → List Effect
-sign_effects omit slot past sign =
+unfoldable pub failure_sign_effects : ℕ → ℕ → List NoticeKind → FailureSign → List Effect
+failure_sign_effects omit slot past sign =
     Enter (Failed slot sign.node sign.cycle) ∷ (if has_enough omit (fda_of sign) past then [] else Ask (fda_frame sign) ∷ [])
 
 -- at a copy with more than omit copies read the frame is withdrawn
@@ -34,9 +34,9 @@ fda_copy_effects omit Bad past = []
 -- the sign in the notice, and then those of silence: what was read before it is given, and what the node knew then
 unfoldable pub failures_at : Parameters → ℕ → NoticeKind → List NoticeKind → Knowledge → List Effect
 failures_at p i notice before known =
-    flat_map (sign_effects p.omit (length before) (notice ∷ before)) (told_in i (length before) notice known)
+    flat_map (failure_sign_effects p.omit (length before) (notice ∷ before)) (told_in i (length before) notice known)
     ++ fda_copy_effects p.omit notice (notice ∷ before)
-    ++ flat_map (sign_effects p.omit (length before) (notice ∷ before)) (found_in p i (length before) notice known)
+    ++ flat_map (failure_sign_effects p.omit (length before) (notice ∷ before)) (found_in p i (length before) notice known)
 
 unfoldable pub failure_effects : TurnRule
 failure_effects scenario i [] = []

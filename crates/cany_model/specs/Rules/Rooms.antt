@@ -5,6 +5,7 @@ use Rattle.cany_base.specs.declared.class.Class.TheVariants.{Accept, Rha, Els, F
 use Rattle.cany_base.specs.declared.message.NodeAsk.{NodeAsk}
 use Rattle.cany_base.specs.declared.message.Service.{Service}
 use Rattle.cany_base.specs.declared.message.Service.TheVariants as service
+use Rattle.cany_base.specs.Cycles.{cycle_of}
 use Rattle.cany_base.specs.Scenario.{ScenarioParts}
 use Rattle.cany_model.specs.Bus.Frames.{Identity}
 use Rattle.cany_model.specs.Rules.Messages.{IsOfMessage, is_service}
@@ -30,7 +31,7 @@ pub record IsOfAsk (scenario : ScenarioParts) (asks : List NodeAsk) (i : ℕ) (x
   pub stands : Contains asks ask
   pub asker : ask.node ≡ i
   pub node : x.node ≡ i
-  pub number : x.number ≡ ask.slot / scenario.params.cycle
+  pub number : x.number ≡ cycle_of scenario.params ask.slot
 
 -- A frame of this identity may come to wait at node i, by its class: it is a frame of a message of the service, a vector of its own, a
 -- life sign, a failure sign, or a scripted ask of its own.

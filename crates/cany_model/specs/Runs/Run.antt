@@ -42,8 +42,8 @@ reply scenario s step.Slot = slot_reply scenario s
 reply scenario s (step.Turn i) = turn_reply scenario i s
 
 -- the node's state with one notice fewer unread
-abbrev pub having_read : ℕ → RunState → RunState
-having_read i s = record s { nodes = slice_set s.nodes i (record (node_at s.nodes i) { unread = (node_at s.nodes i).unread - 1 }) }
+abbrev pub after_reading : ℕ → RunState → RunState
+after_reading i s = record s { nodes = slice_set s.nodes i (record (node_at s.nodes i) { unread = (node_at s.nodes i).unread - 1 }) }
 
 abbrev pub with_waiting : ℕ → RunState → NodeState → RunState
 with_waiting i s node = record s { nodes = slice_set s.nodes i node }
@@ -51,7 +51,7 @@ with_waiting i s node = record s { nodes = slice_set s.nodes i node }
 -- node i reads its oldest unread notice, and its waiting frames change as the rules say
 unfoldable pub after_turn : ScenarioParts → ℕ → RunState → RunState
 after_turn scenario i s =
-    let read = having_read i s in
+    let read = after_reading i s in
     let node = node_at read.nodes i in
     let effects = effects_for node.present.number scenario node.present i (history i read) in
     with_waiting i read (record node { waiting = waiting_after effects node.waiting })

@@ -1,8 +1,8 @@
 -- The failure detector is accurate: a running node has failed at no correct node. In a scenario without restarts, where the vectors that are
 -- installed are one and there are quiet slots.
-use Rattle.std.proofs.Common.{◌≡◌, ◌≢◌, ℕ, suc, ◌-◌, ◌<◌, ◌≤◌, ◌⊎◌, ◌&&◌, ◌||◌, ◌==◌, not, nat_le, inl, inr, Bool, true, false, List, [], ◌∷◌, ◌++◌, length, map, filter, drop, Option, Some, None, refl, ap, sym, ◌∙◌, subst, arith, add-one}
+use Rattle.std.proofs.Common.{◌≡◌, ℕ, suc, ◌<◌, ◌≤◌, ◌&&◌, ◌||◌, ◌==◌, not, inl, inr, Bool, true, false, List, [], ◌∷◌, ◌++◌, length, map, filter, drop, Option, Some, None, refl, ap, sym, ◌∙◌, subst, arith, add-one}
 use Rattle.std.specs.List.{AllByRecursion, range_with_len}
-use Rattle.std.proofs.lemmas.Bool.{and_parts, both_ways, cases_eq, cond_both, eq-eqb, eqb-true, false_from_ne_true, leb-true, not-true, or_cases, or_from}
+use Rattle.std.proofs.lemmas.Bool.{and_parts, both_ways, cond_both, eqb-true, false_from_ne_true, or_cases, or_from}
 use Rattle.std.proofs.lemmas.List.Elements.{All-contains, All-from_recursion}
 use Rattle.cany_base.specs.declared.class.Class.TheVariants as class
 use Rattle.cany_base.specs.declared.notice.NoticeKind.{NoticeKind}
@@ -36,8 +36,8 @@ use Rattle.cany_model.proofs.Bus.Identities.{same_class-true}
 use Rattle.cany_model.proofs.Bus.Notes.{given-Got, note_of-offered}
 use Rattle.cany_model.proofs.Runs.Runs.{IsOrderly, opening_within, orderly}
 use Rattle.cany_model.proofs.Bus.States.{node_at-opening, runs_within}
-use Rattle.cany_model.proofs.Runs.Steps.{MayTurn, after_slot-trace, after_slot-unread, after_slot-waiting, after_turn-trace, running_before_slot, each_turned}
-use Rattle.cany_model.proofs.Runs.Waits.{Asks, AsksOnly, Each-after, Each-kept}
+use Rattle.cany_model.proofs.Runs.Steps.{MayTurn, after_slot-trace, after_slot-unread, after_slot-waiting, after_turn-trace, running_before_slot, each_turned, Each-kept}
+use Rattle.cany_model.proofs.Rules.Waits.{Asks, AsksOnly, Each-after}
 use Rattle.cany_model.proofs.Promises.Diffusion.{Turned, past_of}
 use Rattle.cany_model.proofs.Promises.EachNode.{turn_turned}
 use Rattle.cany_model.proofs.Rules.SignFacts.{asked_is_known}

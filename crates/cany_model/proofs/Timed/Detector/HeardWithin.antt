@@ -23,7 +23,7 @@ use Rattle.cany_model.specs.Promises.Quiet.{HasQuietSlots, IsQuiet, WasQuiet}
 use Rattle.cany_model.specs.Rules.KnowledgeOf.{knowledge_of}
 use Rattle.cany_model.specs.Rules.Turn.{scenario_for}
 use Rattle.cany_model.proofs.Bus.Carried.{Carries}
-use Rattle.cany_model.proofs.Bus.Counting.{success_is_clean, verdict_not_silent}
+use Rattle.cany_model.proofs.Promises.CleanSlots.{success_is_clean, verdict_not_silent}
 use Rattle.cany_model.proofs.Runs.Journals.{reads_other, reads_slot, reads_turn, run_then}
 use Rattle.cany_model.proofs.Bus.Notes.{given-Sent}
 use Rattle.cany_model.proofs.Runs.Runs.{IsOrderly, orderly, slot_done}

@@ -1,7 +1,7 @@
 -- A node that has asked for no leave is never among those that leave; so a member that has not failed starts each cycle.
 use Rattle.std.proofs.Common.{◌≡◌, ℕ, ◌<◌, ◌≤◌, ◌++◌, nat_lt, filter, ◌⊎◌, ◌&&◌, ◌||◌, ◌==◌, not, inl, inr, if◌then◌else◌, Bool, true, false, List, [], ◌∷◌, length, map, Option, Some, None, refl, ap, sym, ◌∙◌, subst, arith}
 use Rattle.std.specs.List.{AllByRecursion, flat_map, list_any}
-use Rattle.std.proofs.lemmas.Bool.{and_from, and_parts, both_ways, cases_Bool, cases_eq, cond-false, cond_both, eq-eqb, eqb-true, false_from_ne_true, ltb-true, or_right, false≢true, not_from_false, or_cases, or_left}
+use Rattle.std.proofs.lemmas.Bool.{and_from, and_parts, both_ways, cases_Bool, cases_eq, cond-false, cond_both, eq-eqb, eqb-true, false_from_ne_true, ltb-true, or_right, not_from_false, or_cases, or_left}
 use Rattle.std.proofs.lemmas.List.Elements.{All-contains, All-from_recursion}
 use Rattle.cany_base.specs.declared.class.Class.{Class}
 use Rattle.cany_base.specs.declared.class.Class.TheVariants as class
@@ -36,12 +36,12 @@ use Rattle.cany_model.proofs.Bus.Identities.{same_class-true, same_class_self}
 use Rattle.cany_model.proofs.Bus.Notes.{given-Got, given-Sent, note_of-offered, placed_where}
 use Rattle.cany_model.proofs.Bus.Seen.{history-is}
 use Rattle.cany_model.proofs.Runs.Runs.{along_run}
-use Rattle.cany_model.proofs.Runs.Steps.{MayTurn, after_slot-history, after_slot-present, after_slot-trace, after_turn-history, after_turn-other_history, after_turn-present, after_turn-trace, next_notice}
-use Rattle.cany_model.proofs.Runs.Waits.{Each-after, Each-kept}
+use Rattle.cany_model.proofs.Runs.Steps.{MayTurn, after_slot-history, after_slot-present, after_slot-trace, after_turn-history, after_turn-other_history, after_turn-present, after_turn-trace, next_notice, Each-kept}
+use Rattle.cany_model.proofs.Rules.Waits.{Each-after}
 use Rattle.cany_model.proofs.Promises.Diffusion.{past_of}
 use Rattle.cany_model.proofs.Promises.EachNode.{EachRunning, IsNodes, nodes_at_first, nodes_kept}
 use Rattle.cany_model.proofs.Promises.OwnSlotsAlone.{AllWaitForOwnSlots}
-use Rattle.cany_model.proofs.Rules.ProtocolFacts.{IsScripted, MayAsk, MayRequest, accepts, confirms, data_is_no_other, exchanges, is_relayed, lives, originates, relays, requests, signals, request_asked}
+use Rattle.cany_model.proofs.Rules.ProtocolFacts.{IsScripted, MayAsk, MayRequest, request_asked}
 use Rattle.cany_model.proofs.Rules.TurnFacts.{turn_only}
 use Rattle.cany_model.proofs.Timed.Detector.NoRestarts.{restarts_none}
 use Rattle.cany_model.proofs.Rules.KnowledgeSteps.{found_keeps, leavers_after, leavers_by, life_keeps, met_keeps}

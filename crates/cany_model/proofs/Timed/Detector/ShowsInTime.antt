@@ -34,7 +34,7 @@ use Rattle.cany_model.proofs.Bus.Notes.{sender_waits}
 use Rattle.cany_model.proofs.Bus.Restarts.{after_restarts-trace}
 use Rattle.cany_model.proofs.Runs.Runs.{along_run}
 use Rattle.cany_model.proofs.Runs.Steps.{after_slot-trace, after_turn-trace}
-use Rattle.cany_model.proofs.Runs.Waits.{Asks, Withdraws, waits-without, waits_after}
+use Rattle.cany_model.proofs.Rules.Waits.{Asks, Withdraws, waits-without, waits_after}
 use Rattle.cany_model.proofs.Promises.Diffusion.{Lived, past_of}
 use Rattle.cany_model.proofs.Promises.EachNode.{EachRunning, IsNew, IsNodes, each_running, nodes_at_first, nodes_kept, waiting_has}
 use Rattle.cany_model.proofs.Promises.OwnSlotsAlone.{AllWaitForOwnSlots}

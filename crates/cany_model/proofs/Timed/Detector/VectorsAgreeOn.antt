@@ -44,8 +44,8 @@ use Rattle.cany_model.proofs.Bus.Notes.{given-Got, note_of-offered, placed_where
 use Rattle.cany_model.proofs.Runs.Runs.{IsOrderly, history-length, history-opening, opening_within, orderly}
 use Rattle.cany_model.proofs.Bus.Seen.{history-is}
 use Rattle.cany_model.proofs.Bus.States.{no_note, node_at-opening, note_at, runs_within}
-use Rattle.cany_model.proofs.Runs.Steps.{MayTurn, after_slot-history, after_slot-trace, after_slot-waiting, after_turn-history, after_turn-node, after_turn-other, after_turn-other_history, after_turn-runs, after_turn-trace, next_age, next_notice, running_before_slot}
-use Rattle.cany_model.proofs.Runs.Waits.{AsksOnly, Each-after, Each-kept}
+use Rattle.cany_model.proofs.Runs.Steps.{MayTurn, after_slot-history, after_slot-trace, after_slot-waiting, after_turn-history, after_turn-node, after_turn-other, after_turn-other_history, after_turn-runs, after_turn-trace, next_age, next_notice, running_before_slot, Each-kept}
+use Rattle.cany_model.proofs.Rules.Waits.{AsksOnly, Each-after}
 use Rattle.cany_model.proofs.Promises.WaitingIsAskable.{all_belong, readable}
 use Rattle.cany_model.proofs.Promises.Diffusion.{past_of}
 use Rattle.cany_model.proofs.Promises.KeptVectors.{vector_at}

@@ -31,17 +31,18 @@ use Rattle.cany_model.specs.Rules.Turn.{scenario_for, turn_effects}
 use Rattle.cany_model.proofs.Among.{Among, Among-from_Contains, Among-place, count-grows, count-no, count-yes}
 use Rattle.cany_model.proofs.Runs.Journals.{run_then}
 use Rattle.cany_model.proofs.Runs.Runs.{IsOrderly, orderly}
-use Rattle.cany_model.proofs.Bus.Seen.{carries_other, hidden_not, history-is, length-seen, partial_seen}
+use Rattle.cany_model.proofs.Bus.Seen.{carries_other, hidden_not, history-is, length-seen}
+use Rattle.cany_model.proofs.Promises.WithinSeen.{partial_seen}
 use Rattle.cany_model.proofs.Runs.SlotStates.{slot_state_is, trace_grows}
 use Rattle.cany_model.proofs.Bus.States.{no_note, note_at}
-use Rattle.cany_model.proofs.Runs.Waits.{Asks, waits-from_after}
+use Rattle.cany_model.proofs.Rules.Waits.{Asks, waits-from_after}
 use Rattle.cany_model.proofs.Promises.EachNode.{EachRunning}
 use Rattle.cany_model.proofs.Rules.AskedFacts.{same_answer}
 use Rattle.cany_model.proofs.Timed.Order.Accepted.{accepted_done, accepted_on, heard_at, heard_from, not_vector, sees_accept, some_node}
 use Rattle.cany_model.proofs.Timed.Common.Ages.{Carried, Clean, Done, Gets, NoPlace, Sends, any_past, carried_there, carries, carries_clean, clean_carried, gave, open_from, past, some_past}
 use Rattle.cany_model.proofs.Timed.Order.AcceptanceRelays.{AcceptsLater, Answer, Answers, Hears, accepts_later, heard_holds, later_seen, many_copies}
 use Rattle.cany_model.proofs.Timed.Order.AcceptanceRelaysRun.{AnswerNode, answers_run}
-use Rattle.cany_model.proofs.Timed.Order.NoLateAcceptances.{CalmSince, IsCarriedOnce, at_older, calm_after, quiet_asks, quiet_waits, unseen_later}
+use Rattle.cany_model.proofs.Timed.Order.NoLateAcceptances.{NoAcceptanceSince, IsCarriedOnce, at_older, no_acceptance_after, quiet_asks, quiet_waits, unseen_later}
 use Rattle.cany_model.proofs.Timed.Order.OrderAt.{one_done}
 use Rattle.cany_model.proofs.Timed.Common.SeenAges.{Sees, carried_from, clean_from, clean_to, done_from, done_to, gets_from, gets_to, partial_to, sends_from, sends_to}
 use Rattle.cany_model.proofs.Timed.Order.TotKept.{NoSilent, TotKept}
@@ -180,23 +181,23 @@ pub record AtQuiet (scenario : ScenarioParts) (s base : RunState) (m : MsgKey) (
   pub tot_base : TotKept scenario base
   pub answers : EachRunning (AnswerNode scenario) base
   pub quiet : IsQuiet scenario base
-  pub calm : CalmSince m base s
+  pub not_carried : NoAcceptanceSince m base s
   pub done : Done s.trace q m
   pub age : ℕ
-  pub ages : q ≡ length calm.newer + age
+  pub ages : q ≡ length not_carried.newer + age
   pub near : age < scenario.params.bound
 
 module _ (scenario : ScenarioParts) (s base : RunState) (m : MsgKey) (q : ℕ) (k : AtQuiet scenario s base m q) where
   -- what holds of an older slot of the trace, holds of that slot in the quiet state
-  back : (P : SlotNote → Type 0) (c v : ℕ) → c ≡ length k.calm.newer + v → P (note_at s.trace c) → P (note_at base.trace v)
+  back : (P : SlotNote → Type 0) (c v : ℕ) → c ≡ length k.not_carried.newer + v → P (note_at s.trace c) → P (note_at base.trace v)
   back P c v at h =
-      subst P (ap (note_at s.trace) at ∙ ap (λ t. note_at t (length k.calm.newer + v)) k.calm.trace ∙ at_older k.calm.newer base.trace v) h
+      subst P (ap (note_at s.trace) at ∙ ap (λ t. note_at t (length k.not_carried.newer + v)) k.not_carried.trace ∙ at_older k.not_carried.newer base.trace v) h
 
-  forth : (P : SlotNote → Type 0) (v : ℕ) → P (note_at base.trace v) → P (note_at s.trace (length k.calm.newer + v))
-  forth P v h = subst P (sym (ap (λ t. note_at t (length k.calm.newer + v)) k.calm.trace ∙ at_older k.calm.newer base.trace v)) h
+  forth : (P : SlotNote → Type 0) (v : ℕ) → P (note_at base.trace v) → P (note_at s.trace (length k.not_carried.newer + v))
+  forth P v h = subst P (sym (ap (λ t. note_at t (length k.not_carried.newer + v)) k.not_carried.trace ∙ at_older k.not_carried.newer base.trace v)) h
 
   plain_base : NoSilent base.trace
-  plain_base = plain_older k.calm.newer base.trace (subst NoSilent k.calm.trace k.plain)
+  plain_base = plain_older k.not_carried.newer base.trace (subst NoSilent k.not_carried.trace k.plain)
 
   done_base : Done base.trace k.age m
   done_base = back (λ n. carries_clean (tot_of_key m) n ≡ true) q k.age k.ages k.done
@@ -208,8 +209,8 @@ module _ (scenario : ScenarioParts) (s base : RunState) (m : MsgKey) (q : ℕ) (
   once c d = one_done s.trace (λ a r n. k.tot.trace.data_first a r n) m c q d k.done
 
   -- a copy is older than the quiet state
-  copy_old : (c : ℕ) → Carried s.trace c (accept_of_key m) → length k.calm.newer ≤ c
-  copy_old c carried = elim (cases_lt c (length k.calm.newer)) [ inl fresh ↦ absurd (k.calm.calm c fresh carried) | inr old ↦ old ]
+  copy_old : (c : ℕ) → Carried s.trace c (accept_of_key m) → length k.not_carried.newer ≤ c
+  copy_old c carried = elim (cases_lt c (length k.not_carried.newer)) [ inl fresh ↦ absurd (k.not_carried.not_carried c fresh carried) | inr old ↦ old ]
 
   -- ---- a node of the quiet state, by what its incarnation sees of it
 
@@ -239,9 +240,9 @@ module _ (scenario : ScenarioParts) (s base : RunState) (m : MsgKey) (q : ℕ) (
       | inl clean ↦ clean
       | inr less ↦
           let by_seen = partial_seen (accept_of_key m) inc base.trace in
-          let by_age = partial_older (accept_of_key m) k.calm.newer base.trace in
+          let by_age = partial_older (accept_of_key m) k.not_carried.newer base.trace in
           let most = k.few (accept_of_key m) in
-          absurd (omega (arith, many, less, by_seen, by_age, most, ap (partial_slots (accept_of_key m)) k.calm.trace))
+          absurd (omega (arith, many, less, by_seen, by_age, most, ap (partial_slots (accept_of_key m)) k.not_carried.trace))
     ]
 
     pub base_clean : Sees (node_at base.nodes i).present base.trace k.age
@@ -282,9 +283,9 @@ module _ (scenario : ScenarioParts) (s base : RunState) (m : MsgKey) (q : ℕ) (
       let read = accepted_done scenario s.trace inc k.plain k.orderly.numbered k.tot.trace i u m h in
       let was = done_from inc s.trace read.0 m read.2 in
       let sees : Sees inc s.trace q = subst (Sees inc s.trace) (once read.0 was.1) was.0 in
-      elim (k.calm.who i running) [
+      elim (k.not_carried.who i running) [
         | inr later ↦
-            absurd (unseen_later base k.calm.newer s.trace (node_at s.nodes i) k.calm.trace k.orderly.numbered later q (omega (arith, k.ages)) there
+            absurd (unseen_later base k.not_carried.newer s.trace (node_at s.nodes i) k.not_carried.trace k.orderly.numbered later q (omega (arith, k.ages)) there
             sees)
         | inl stays ↦
             let sees_base : Sees (node_at base.nodes i).present base.trace k.age =
@@ -294,8 +295,8 @@ module _ (scenario : ScenarioParts) (s base : RunState) (m : MsgKey) (q : ℕ) (
                   let g = heard_at scenario.params.bound i u m S heard in
                   let f = gets_from inc s.trace i g.0 y g.2 in
                   let old = copy_old g.0 (got_carried y i (note_at s.trace g.0) f.1) in
-                  let v : ℕ = g.0 - length k.calm.newer in
-                  let at : g.0 ≡ length k.calm.newer + v = omega (arith, old) in
+                  let v : ℕ = g.0 - length k.not_carried.newer in
+                  let at : g.0 ≡ length k.not_carried.newer + v = omega (arith, old) in
                   let got : Gets i (seen inc base.trace) v y =
                   gets_to inc base.trace i v y (back (λ n. is_hidden inc n ≡ false) g.0 v at f.0)
                   (back (λ n. is_got y (given i n) ≡ true) g.0 v at f.1) in
@@ -353,7 +354,7 @@ module _ (scenario : ScenarioParts) (s base : RunState) (m : MsgKey) (q : ℕ) (
         → is_accepted scenario.params.bound j m (past j (seen (node_at s.nodes j).present s.trace) v) ≡ true
     all_accept r clean =
         let x = accept_of_key m in
-        let c : ℕ = length k.calm.newer + r in
+        let c : ℕ = length k.not_carried.newer + r in
         let now : Clean s.trace c x = forth (λ n. carries_clean x n ≡ true) r clean in
         let carried = clean_carried x (note_at s.trace c) now in
         let older = accepts_later scenario s.trace k.tot.trace m c q carried k.done in
@@ -397,11 +398,11 @@ at_quiet scenario journal few within slots m q d late =
     subst (λ (n : SlotNote). carries_clean (tot_of_key m) n ≡ true)
     (ap (note_at T) at ∙ ap (λ l. note_at l (length grows.0 + age)) is ∙ at_older grows.0 base.trace age) d in
     let once : IsCarriedOnce m T = λ c r. tot.trace.data_first c r m in
-    let calm : CalmSince m base (run scenario journal) =
-    subst (CalmSince m base) (sym whole)
-    (calm_after scenario few m base (orderly scenario r.before) quiet age done rest (subst (λ (s : RunState). IsCarriedOnce m s.trace) whole once)) in
-    let long' : length T ≡ length calm.newer + length base.trace = ap length calm.trace ∙ length-append calm.newer base.trace in
-    let plain_base : NoSilent base.trace = plain_older calm.newer base.trace (subst NoSilent calm.trace plain) in (
+    let not_carried : NoAcceptanceSince m base (run scenario journal) =
+    subst (NoAcceptanceSince m base) (sym whole)
+    (no_acceptance_after scenario few m base (orderly scenario r.before) quiet age done rest (subst (λ (s : RunState). IsCarriedOnce m s.trace) whole once)) in
+    let long' : length T ≡ length not_carried.newer + length base.trace = ap length not_carried.trace ∙ length-append not_carried.newer base.trace in
+    let plain_base : NoSilent base.trace = plain_older not_carried.newer base.trace (subst NoSilent not_carried.trace plain) in (
       base,
       record {
         orderly = orderly scenario journal;
@@ -412,7 +413,7 @@ at_quiet scenario journal few within slots m q d late =
         tot_base = tot_kept scenario few r.before plain_base;
         answers = answers_run scenario few r.before plain_base;
         quiet = quiet;
-        calm = calm;
+        not_carried = not_carried;
         done = d;
         age = age;
         ages = omega (arith, long, long', at);

@@ -32,7 +32,7 @@ use Rattle.cany_model.proofs.Runs.Runs.{IsKept, IsOrderly, orderly_slot, orderly
 use Rattle.cany_model.proofs.Bus.Seen.{history-is, length-seen, trace_for-is}
 use Rattle.cany_model.proofs.Bus.States.{note_at, runs_within}
 use Rattle.cany_model.proofs.Runs.Steps.{MayTurn, after_slot-present, after_slot-trace, after_slot-unread, after_slot-waiting, after_turn-node, after_turn-other, after_turn-runs, after_turn-trace, running_before_slot}
-use Rattle.cany_model.proofs.Runs.Waits.{Asks, waits-from_after}
+use Rattle.cany_model.proofs.Rules.Waits.{Asks, waits-from_after}
 use Rattle.cany_model.proofs.Rules.IncarnationFacts.{effects_for-is}
 use Rattle.cany_model.proofs.Timed.Common.Ages.{Carried, Done, carries_clean, gave, past}
 use Rattle.cany_model.proofs.Timed.Common.OwnSlots.{sees_from}
@@ -116,10 +116,10 @@ pub record IsLater (base : RunState) (node : NodeState) : Type 0 where
   pub later : 0 < node.present.number
   pub from : length base.trace ≤ node.present.from
 
-pub record CalmSince (m : MsgKey) (base s : RunState) : Type 0 where
+pub record NoAcceptanceSince (m : MsgKey) (base s : RunState) : Type 0 where
   pub newer : List SlotNote
   pub trace : s.trace ≡ newer ++ base.trace
-  pub calm : (c : ℕ) → c < length newer → Carried s.trace c (accept_of_key m) → ⊥
+  pub not_carried : (c : ℕ) → c < length newer → Carried s.trace c (accept_of_key m) → ⊥
   pub who : (i : ℕ) → runs (node_at s.nodes i) ≡ true → IsStaying base newer i (node_at s.nodes i) ⊎ IsLater base (node_at s.nodes i)
   pub waits : (i : ℕ) → runs (node_at s.nodes i) ≡ true → waits (accept_of_key m) (node_at s.nodes i).waiting ≡ true → ⊥
 
@@ -127,8 +127,8 @@ pub record CalmSince (m : MsgKey) (base s : RunState) : Type 0 where
 abbrev pub IsCarriedOnce : MsgKey → List SlotNote → Type 0
 IsCarriedOnce m T = (c q : ℕ) → c < q → Carried T c (tot_of_key m) → Done T q m → ⊥
 
-abbrev Calm : MsgKey → RunState → RunState → Type 0
-Calm m base s = IsCarriedOnce m s.trace → CalmSince m base s
+abbrev NoAcceptanceIfCarriedOnce : MsgKey → RunState → RunState → Type 0
+NoAcceptanceIfCarriedOnce m base s = IsCarriedOnce m s.trace → NoAcceptanceSince m base s
 
 staying_slot : (base : RunState) (newer : List SlotNote) (note : SlotNote) (i : ℕ) (node after : NodeState) → after.present ≡ node.present
     → after.unread ≡ node.unread + 1 → IsStaying base newer i node ⊎ IsLater base node → IsStaying base (note ∷ newer) i after ⊎ IsLater base after
@@ -139,13 +139,13 @@ staying_slot base newer note i node after same more (inr later) = inr (record {
   from = omega (arith, later.from, ap (λ (inc : Incarnation). inc.from) same);
 })
 
-calm_slot : (m : MsgKey) (base s : RunState) (rules : FaultScript) → length s.nodes ≤ most_nodes → Calm m base s → Calm m base (after_slot rules s)
-calm_slot m base s rules few before once =
+no_acceptance_slot : (m : MsgKey) (base s : RunState) (rules : FaultScript) → length s.nodes ≤ most_nodes → NoAcceptanceIfCarriedOnce m base s → NoAcceptanceIfCarriedOnce m base (after_slot rules s)
+no_acceptance_slot m base s rules few before once =
     let h = before (λ c q less a d. subst (IsCarriedOnce m) (after_slot-trace rules s) once (suc c) (suc q) (omega (arith, less)) a d) in
     record {
       newer = slot_note_of rules s ∷ h.newer;
       trace = after_slot-trace rules s ∙ ap (λ t. slot_note_of rules s ∷ t) h.trace;
-      calm = λ c below carried. calm h c below (subst (λ t. Carried t c (accept_of_key m)) (after_slot-trace rules s) carried);
+      not_carried = λ c below carried. not_carried h c below (subst (λ t. Carried t c (accept_of_key m)) (after_slot-trace rules s) carried);
       who = λ i running.
           let ran = (running_before_slot rules s i running).0 in
           let within = runs_within s.nodes i ran in
@@ -157,19 +157,19 @@ calm_slot m base s rules few before once =
           (subst (λ (l : List FrameParts). waits (accept_of_key m) l ≡ true) (after_slot-waiting rules s i ran) w)).0;
     }
   where
-    calm : (h : CalmSince m base s) (c : ℕ) → c < suc (length h.newer) → Carried (slot_note_of rules s ∷ s.trace) c (accept_of_key m) → ⊥
-    calm h zero below carried = let o = carried_offer rules s (accept_of_key m) few carried in h.waits o.0 o.1.running o.1.waiting
-    calm h (suc c) below carried = h.calm c (omega (arith, below)) carried
+    not_carried : (h : NoAcceptanceSince m base s) (c : ℕ) → c < suc (length h.newer) → Carried (slot_note_of rules s ∷ s.trace) c (accept_of_key m) → ⊥
+    not_carried h zero below carried = let o = carried_offer rules s (accept_of_key m) few carried in h.waits o.0 o.1.running o.1.waiting
+    not_carried h (suc c) below carried = h.not_carried c (omega (arith, below)) carried
 
-calm_restarts : (scenario : ScenarioParts) (m : MsgKey) (base s : RunState) → 0 < length s.trace → Calm m base s
-    → Calm m base (after_restarts scenario s)
-calm_restarts scenario m base s some before once =
+no_acceptance_restarts : (scenario : ScenarioParts) (m : MsgKey) (base s : RunState) → 0 < length s.trace → NoAcceptanceIfCarriedOnce m base s
+    → NoAcceptanceIfCarriedOnce m base (after_restarts scenario s)
+no_acceptance_restarts scenario m base s some before once =
     let h = before (subst (IsCarriedOnce m) (after_restarts-trace scenario s) once) in
     let length_is : length s.trace ≡ length h.newer + length base.trace = ap length h.trace ∙ length-append h.newer base.trace in
     record {
       newer = h.newer;
       trace = after_restarts-trace scenario s ∙ h.trace;
-      calm = λ c below carried. h.calm c below (subst (λ t. Carried t c (accept_of_key m)) (after_restarts-trace scenario s) carried);
+      not_carried = λ c below carried. h.not_carried c below (subst (λ t. Carried t c (accept_of_key m)) (after_restarts-trace scenario s) carried);
       who = λ i running. elim (restarts_or_stays scenario s i) [
         | inl new ↦ rw new.is (inr (record { later = omega arith; from = omega (arith, some, length_is) }))
         | inr same ↦ rw same (h.who i (sym (ap (λ node. runs node) same) ∙ running))
@@ -201,7 +201,7 @@ turn_silent : (scenario : ScenarioParts) (m : MsgKey) (base : RunState) (newer T
     → (waits (accept_of_key m) node.waiting ≡ true → ⊥)
     → let now : List NoticeKind = gave i (seen node.present T) left ∷ past i (seen node.present T) node.unread in
     waits (accept_of_key m) (waiting_after (turn_effects (scenario_for scenario node.present) i now) node.waiting) ≡ true → ⊥
-turn_silent scenario m base newer T i node left q is quiet numbered calm once d since who next short none h =
+turn_silent scenario m base newer T i node left q is quiet numbered not_carried once d since who next short none h =
     elim (asked_then sc i (gave i (seen inc T) left) (past i (seen inc T) node.unread) node.waiting m h) [
       | inl old ↦ none old
       | inr asks ↦ elim (cases_lt left (length newer)) [
@@ -231,7 +231,7 @@ turn_silent scenario m base newer T i node left q is quiet numbered calm once d 
 
     at_fresh : left < length newer → AskCause sc.params i m (gave i (seen inc T) left) (past i (seen inc T) node.unread) → ⊥
     at_fresh fresh (inl sent) = once left q (omega (arith, fresh, since)) (sent_there sent.0).1 d
-    at_fresh fresh (inr got) = calm left fresh (got_there got.0).1
+    at_fresh fresh (inr got) = not_carried left fresh (got_there got.0).1
 
     at_old : length newer ≤ left → IsStaying base newer i node → ⊥
     at_old old stays =
@@ -256,9 +256,9 @@ read_one : (base : RunState) (newer : List SlotNote) (i : ℕ) (node : NodeState
 read_one base newer i node w (inl stays) = inl (record { ran = stays.ran; same = stays.same; unread = omega (arith, stays.unread) })
 read_one base newer i node w (inr later) = inr (record { later = later.later; from = later.from })
 
-calm_turn : (scenario : ScenarioParts) (m : MsgKey) (base s : RunState) → IsQuiet scenario base → (q : ℕ) → Done base.trace q m → (i : ℕ)
-    → IsOrderly scenario.params.nodes s → MayTurn s i → Calm m base s → Calm m base (after_turn scenario i s)
-calm_turn scenario m base s quiet q d i o may before once =
+no_acceptance_turn : (scenario : ScenarioParts) (m : MsgKey) (base s : RunState) → IsQuiet scenario base → (q : ℕ) → Done base.trace q m → (i : ℕ)
+    → IsOrderly scenario.params.nodes s → MayTurn s i → NoAcceptanceIfCarriedOnce m base s → NoAcceptanceIfCarriedOnce m base (after_turn scenario i s)
+no_acceptance_turn scenario m base s quiet q d i o may before once =
     let once' : IsCarriedOnce m s.trace = subst (IsCarriedOnce m) (after_turn-trace scenario i s) once in
     let h = before once' in
     let node = node_at s.nodes i in
@@ -274,7 +274,7 @@ calm_turn scenario m base s quiet q d i o may before once =
     record {
       newer = h.newer;
       trace = after_turn-trace scenario i s ∙ h.trace;
-      calm = λ c below carried. h.calm c below (subst (λ t. Carried t c (accept_of_key m)) (after_turn-trace scenario i s) carried);
+      not_carried = λ c below carried. h.not_carried c below (subst (λ t. Carried t c (accept_of_key m)) (after_turn-trace scenario i s) carried);
       who = λ j running. elim (cases_eq j i) [
         | inl same ↦
             subst (λ k. IsStaying base h.newer k (after k) ⊎ IsLater base (after k)) (sym same)
@@ -287,7 +287,7 @@ calm_turn scenario m base s quiet q d i o may before once =
             subst (λ k. waits (accept_of_key m) (after k).waiting ≡ true → ⊥) (sym same)
             (subst (λ (n : NodeState). waits (accept_of_key m) n.waiting ≡ true → ⊥) (sym (after_turn-node scenario i s may short))
             (rw (history-is i s)
-            (turn_silent scenario m base h.newer s.trace i node (node.unread - 1) (length h.newer + q) h.trace quiet o.numbered h.calm once' d'
+            (turn_silent scenario m base h.newer s.trace i node (node.unread - 1) (length h.newer + q) h.trace quiet o.numbered h.not_carried once' d'
             (omega arith) (h.who i may.running) next short (h.waits i may.running))))
         | inr other ↦ rw (after_turn-other scenario i s j other) (h.waits j (ran j running))
       ];
@@ -321,22 +321,22 @@ kept_after scenario P keeps s (next ∷ rest) o p =
       | inr refused ↦ subst (λ t. IsOrderly scenario.params.nodes t × P t) (sym (step_refused scenario s made refused)) (o, p)
     ]
 
-pub calm_after : (scenario : ScenarioParts) → scenario.params.nodes ≤ most_nodes → (m : MsgKey) (base : RunState)
+pub no_acceptance_after : (scenario : ScenarioParts) → scenario.params.nodes ≤ most_nodes → (m : MsgKey) (base : RunState)
     → IsOrderly scenario.params.nodes base → IsQuiet scenario base → (q : ℕ) → Done base.trace q m → (rest : List Step)
     → IsCarriedOnce m (run_from scenario base rest).trace
-    → CalmSince m base (run_from scenario base rest)
-calm_after scenario few m base o quiet q d rest =
-    kept_after scenario (Calm m base)
+    → NoAcceptanceSince m base (run_from scenario base rest)
+no_acceptance_after scenario few m base o quiet q d rest =
+    kept_after scenario (NoAcceptanceIfCarriedOnce m base)
     (record {
-      slot = λ s ordered may h. calm_slot m base s (script scenario.rules) (subst (λ n. n ≤ most_nodes) (sym ordered.count) few) h;
-      restarts = λ s ordered some h. calm_restarts scenario m base s some h;
-      turn = λ s i ordered may h. calm_turn scenario m base s quiet q d i ordered may h;
+      slot = λ s ordered may h. no_acceptance_slot m base s (script scenario.rules) (subst (λ n. n ≤ most_nodes) (sym ordered.count) few) h;
+      restarts = λ s ordered some h. no_acceptance_restarts scenario m base s some h;
+      turn = λ s i ordered may h. no_acceptance_turn scenario m base s quiet q d i ordered may h;
     })
     base rest o
     (λ once. record {
       newer = [];
       trace = refl;
-      calm = λ c below carried. omega (arith, below);
+      not_carried = λ c below carried. omega (arith, below);
       who = λ i running. inl (record { ran = running; same = refl; unread = omega arith });
       waits = λ i running w. quiet_waits scenario base quiet i running m w;
     })

@@ -23,7 +23,7 @@ use Rattle.cany_model.proofs.Among.{count-no, count-yes}
 use Rattle.cany_model.proofs.Bus.Identities.{same_class-true, same_class_self, same_identity-from, same_identity-true}
 use Rattle.cany_model.proofs.Promises.Diffusion.{copies_got}
 use Rattle.cany_model.proofs.Rules.PlaceFacts.{holds-place, tot_in-holds}
-use Rattle.cany_model.proofs.Timed.Common.LastEffect.{Asked, Silence, Withdrawn, Word, accept_alone, later, tot_alone, turn_waits, turn_word, waits_word, word, word-append}
+use Rattle.cany_model.proofs.Timed.Common.LastEffect.{Asked, NoEffect, Withdrawn, LastEffect, accept_alone, later, tot_alone, turn_waits, turn_last_effect, waits_by_last_effect, last_effect, last_effect-append}
 
 -- ---- the frame that accepts a message
 
@@ -37,26 +37,26 @@ accept_class m f h =
       sym e,
     )
 
--- deliveries have no word on any frame
-deliveries_silent : (x : Identity) (slot : ℕ) (frames : List FrameParts) → word x (map (tot_delivery slot) frames) ≡ Silence
-deliveries_silent x slot [] = refl
-deliveries_silent x slot (f ∷ frames) = rw (deliveries_silent x slot frames) refl
+-- deliveries have no effect on any frame
+deliveries_no_effect : (x : Identity) (slot : ℕ) (frames : List FrameParts) → last_effect x (map (tot_delivery slot) frames) ≡ NoEffect
+deliveries_no_effect x slot [] = refl
+deliveries_no_effect x slot (f ∷ frames) = rw (deliveries_no_effect x slot frames) refl
 
--- a turn has the word of the closing, or else that of the notice
-pub accept_word : (m : MsgKey) (scenario : ScenarioParts) (i : ℕ) (e : NoticeKind) (before : List NoticeKind)
-    → word (accept_of_key m) (turn_effects scenario i (e ∷ before))
-    ≡ later (word (accept_of_key m) (closing_effects scenario.params.bound (e ∷ before)))
-    (word (accept_of_key m) (accept_effects scenario.params i e before))
+-- the last effect of a turn is that of the closing, or else that of the notice
+pub accept_last_effect : (m : MsgKey) (scenario : ScenarioParts) (i : ℕ) (e : NoticeKind) (before : List NoticeKind)
+    → last_effect (accept_of_key m) (turn_effects scenario i (e ∷ before))
+    ≡ later (last_effect (accept_of_key m) (closing_effects scenario.params.bound (e ∷ before)))
+    (last_effect (accept_of_key m) (accept_effects scenario.params i e before))
 unfolding totcan_effects
-accept_word m scenario i e before =
+accept_last_effect m scenario i e before =
     let x : Identity = accept_of_key m in
     let accept : List Effect = accept_effects scenario.params i e before in
     let closing : List Effect = closing_effects scenario.params.bound (e ∷ before) in
     let deliveries : List Effect = map (tot_delivery (length before)) (delivered_now scenario.params i (e ∷ before)) in
-    turn_word scenario i (e ∷ before) x totcan accept_alone
-    ∙ word-append x (accept ++ closing) deliveries
-    ∙ ap (λ w. later w (word x (accept ++ closing))) (deliveries_silent x (length before) (delivered_now scenario.params i (e ∷ before)))
-    ∙ word-append x accept closing
+    turn_last_effect scenario i (e ∷ before) x totcan accept_alone
+    ∙ last_effect-append x (accept ++ closing) deliveries
+    ∙ ap (λ w. later w (last_effect x (accept ++ closing))) (deliveries_no_effect x (length before) (delivered_now scenario.params i (e ∷ before)))
+    ∙ last_effect-append x accept closing
 
 -- ---- the closing
 
@@ -72,15 +72,15 @@ record ClosesIt (bound : ℕ) (m : MsgKey) (past : List NoticeKind) (o : Option 
   closed : can_be_accepted bound m past ≡ false
 
 closing_one : (bound : ℕ) (m : MsgKey) (past : List NoticeKind) (o : Option FrameParts)
-    → (word (accept_of_key m) (closing_of bound past o) ≡ Silence)
-    ⊎ ((word (accept_of_key m) (closing_of bound past o) ≡ Withdrawn) × ClosesIt bound m past o)
+    → (last_effect (accept_of_key m) (closing_of bound past o) ≡ NoEffect)
+    ⊎ ((last_effect (accept_of_key m) (closing_of bound past o) ≡ Withdrawn) × ClosesIt bound m past o)
 closing_one bound m past None = inl refl
 closing_one bound m past (Some f) =
     by_open (can_be_accepted bound (message_in f) past) refl (same_identity (accept_of_key m) (accept_of_key (message_in f))) refl
   where
     R : Type 0
-    R = (word (accept_of_key m) (closing_of bound past (Some f)) ≡ Silence)
-        ⊎ ((word (accept_of_key m) (closing_of bound past (Some f)) ≡ Withdrawn) × ClosesIt bound m past (Some f))
+    R = (last_effect (accept_of_key m) (closing_of bound past (Some f)) ≡ NoEffect)
+        ⊎ ((last_effect (accept_of_key m) (closing_of bound past (Some f)) ≡ Withdrawn) × ClosesIt bound m past (Some f))
 
     by_open : (b : Bool) → can_be_accepted bound (message_in f) past ≡ b → (d : Bool) → same_identity (accept_of_key m) (accept_of_key (message_in f)) ≡ d → R
     by_open true e d q = inl (rw e refl)
@@ -99,12 +99,12 @@ closing_one bound m past (Some f) =
         )
 
 -- the closing withdraws the frame that accepts a message exactly where it closes the message
-pub closing_word : (bound : ℕ) (m : MsgKey) (past : List NoticeKind)
-    → ((word (accept_of_key m) (closing_effects bound past) ≡ Silence) × (IsClosing bound m past → ⊥))
-    ⊎ ((word (accept_of_key m) (closing_effects bound past) ≡ Withdrawn) × IsClosing bound m past)
+pub closing_last_effect : (bound : ℕ) (m : MsgKey) (past : List NoticeKind)
+    → ((last_effect (accept_of_key m) (closing_effects bound past) ≡ NoEffect) × (IsClosing bound m past → ⊥))
+    ⊎ ((last_effect (accept_of_key m) (closing_effects bound past) ≡ Withdrawn) × IsClosing bound m past)
 unfolding closing_effects
-closing_word bound m past = elim (closing_one bound m past (tot_in (slice_index_or past bound Idle))) [
-  | inl silent ↦ inl (silent, λ c. closes c silent)
+closing_last_effect bound m past = elim (closing_one bound m past (tot_in (slice_index_or past bound Idle))) [
+  | inl no_effect ↦ inl (no_effect, λ c. closes c no_effect)
   | inr w ↦
       inr (
         w.0,
@@ -116,17 +116,17 @@ closing_word bound m past = elim (closing_one bound m past (tot_in (slice_index_
       )
 ]
   where
-    closes : IsClosing bound m past → word (accept_of_key m) (closing_of bound past (tot_in (slice_index_or past bound Idle))) ≡ Silence → ⊥
-    closes c silent =
+    closes : IsClosing bound m past → last_effect (accept_of_key m) (closing_of bound past (tot_in (slice_index_or past bound Idle))) ≡ NoEffect → ⊥
+    closes c no_effect =
         let h = holds-place m (slice_index_or past bound Idle) c.0 in
         let same : same_identity (accept_of_key m) (accept_of_key (message_in h.frame)) ≡ true =
         same_identity-from (accept_of_key m) (accept_of_key (message_in h.frame)) (ap accept_of_key (sym h.names)) in
         let shut : can_be_accepted bound (message_in h.frame) past ≡ false = ap (λ (k : MsgKey). can_be_accepted bound k past) h.names ∙ c.1 in
-        let is : word (accept_of_key m) (closing_of bound past (tot_in (slice_index_or past bound Idle))) ≡ Withdrawn =
-        ap (λ o. word (accept_of_key m) (closing_of bound past o)) h.brought ∙ rw (shut, same) refl in
-        never (sym is ∙ silent)
+        let is : last_effect (accept_of_key m) (closing_of bound past (tot_in (slice_index_or past bound Idle))) ≡ Withdrawn =
+        ap (λ o. last_effect (accept_of_key m) (closing_of bound past o)) h.brought ∙ rw (shut, same) refl in
+        never (sym is ∙ no_effect)
       where
-        never : Withdrawn ≡ Silence → ⊥
+        never : Withdrawn ≡ NoEffect → ⊥
         never q = cc
 
 -- ---- the notice
@@ -151,9 +151,9 @@ pub record TooMany (p : Parameters) (m : MsgKey) (e : NoticeKind) (before : List
   pub opened : can_be_accepted p.bound m before ≡ true
   pub many : p.omit ≤ copies (accept_of_key m) (after_place m before)
 
-abbrev pub AcceptCases : Parameters → ℕ → MsgKey → NoticeKind → List NoticeKind → Word → Type 0
+abbrev pub AcceptCases : Parameters → ℕ → MsgKey → NoticeKind → List NoticeKind → LastEffect → Type 0
 AcceptCases p i m e before w =
-    ((w ≡ Silence) × NoAsk p i m e before)
+    ((w ≡ NoEffect) × NoAsk p i m e before)
     ⊎ (((f : FrameParts) × (w ≡ Asked f) × AskCause p i m e before) ⊎ ((w ≡ Withdrawn) × TooMany p m e before))
 
 tot_class : (m : MsgKey) (f : FrameParts) → is_of (tot_of_key m) f ≡ true → same_class f.class class.Tot ≡ true
@@ -184,11 +184,11 @@ own_same : (x : Identity) (f : FrameParts) (before : List NoticeKind) → has_ow
 unfolding has_own
 own_same x f before = refl
 
-eager_word : (p : Parameters) (i : ℕ) (m : MsgKey) (f : FrameParts) (before : List NoticeKind) → is_of (accept_of_key m) f ≡ true
+eager_last_effect : (p : Parameters) (i : ℕ) (m : MsgKey) (f : FrameParts) (before : List NoticeKind) → is_of (accept_of_key m) f ≡ true
     → can_be_accepted p.bound m before ≡ true
-    → AcceptCases p i m (Got f) before (word (accept_of_key m) (eager_effects p.omit f (after_place m (Got f ∷ before))))
+    → AcceptCases p i m (Got f) before (last_effect (accept_of_key m) (eager_effects p.omit f (after_place m (Got f ∷ before))))
 unfolding eager_effects
-eager_word p i m f before mine in_time = by_enough (has_enough p.omit (identity_of f) now) refl (is_first_copy (identity_of f) now) refl
+eager_last_effect p i m f before mine in_time = by_enough (has_enough p.omit (identity_of f) now) refl (is_first_copy (identity_of f) now) refl
   where
     now : List NoticeKind
     now = after_place m (Got f ∷ before)
@@ -209,7 +209,7 @@ eager_word p i m f before mine in_time = by_enough (has_enough p.omit (identity_
     own = ap (λ y. has_own y now) same ∙ ap (has_own x) shape ∙ own_same x f (after_place m before)
 
     R : Type 0
-    R = AcceptCases p i m (Got f) before (word x (
+    R = AcceptCases p i m (Got f) before (last_effect x (
         if has_enough p.omit (identity_of f) now then Withdraw (identity_of f) ∷ []
         else if is_first_copy (identity_of f) now then Ask f ∷ [] else []))
 
@@ -232,35 +232,35 @@ eager_word p i m f before mine in_time = by_enough (has_enough p.omit (identity_
       },
     )
 
-silent_got : (p : Parameters) (i : ℕ) (m : MsgKey) (f : FrameParts) (before : List NoticeKind)
+no_ask_got : (p : Parameters) (i : ℕ) (m : MsgKey) (f : FrameParts) (before : List NoticeKind)
     → (is_of (accept_of_key m) f ≡ true → can_be_accepted p.bound m before ≡ true → ⊥) → NoAsk p i m (Got f) before
-silent_got p i m f before never = record { sent = λ s o. false≢true s; got = λ g o. absurd (never g o) }
+no_ask_got p i m f before never = record { sent = λ s o. false≢true s; got = λ g o. absurd (never g o) }
 
-eager_silent : (m : MsgKey) (f : FrameParts) → is_of (accept_of_key m) f ≡ false → (omit : ℕ) (now : List NoticeKind)
-    → word (accept_of_key m) (eager_effects omit f now) ≡ Silence
+eager_no_effect : (m : MsgKey) (f : FrameParts) → is_of (accept_of_key m) f ≡ false → (omit : ℕ) (now : List NoticeKind)
+    → last_effect (accept_of_key m) (eager_effects omit f now) ≡ NoEffect
 unfolding eager_effects
-eager_silent m f q omit now =
-    cond_both (has_enough omit (identity_of f) now) (Withdraw (identity_of f) ∷ []) _ (λ es. word (accept_of_key m) es ≡ Silence) (λ _. rw q refl)
-    (λ _. cond_both (is_first_copy (identity_of f) now) (Ask f ∷ []) [] (λ es. word (accept_of_key m) es ≡ Silence) (λ _. rw q refl) (λ _. refl))
+eager_no_effect m f q omit now =
+    cond_both (has_enough omit (identity_of f) now) (Withdraw (identity_of f) ∷ []) _ (λ es. last_effect (accept_of_key m) es ≡ NoEffect) (λ _. rw q refl)
+    (λ _. cond_both (is_first_copy (identity_of f) now) (Ask f ∷ []) [] (λ es. last_effect (accept_of_key m) es ≡ NoEffect) (λ _. rw q refl) (λ _. refl))
 
 abbrev sent_asks : ℕ → FrameParts → List Effect
 sent_asks i f = if same_class f.class class.Tot && f.node == i then Ask (accept_frame f) ∷ [] else []
 
 -- at a transmission of its own
 sent_cases : (p : Parameters) (i : ℕ) (m : MsgKey) (f : FrameParts) (before : List NoticeKind)
-    → AcceptCases p i m (Sent f) before (word (accept_of_key m) (sent_asks i f))
+    → AcceptCases p i m (Sent f) before (last_effect (accept_of_key m) (sent_asks i f))
 sent_cases p i m f before = by_own (same_class f.class class.Tot && f.node == i) refl (is_of (accept_of_key m) (accept_frame f)) refl
   where
     R : Type 0
-    R = AcceptCases p i m (Sent f) before (word (accept_of_key m) (sent_asks i f))
+    R = AcceptCases p i m (Sent f) before (last_effect (accept_of_key m) (sent_asks i f))
 
-    silent : (is_of (tot_of_key m) f ≡ true → m.origin ≡ i → ⊥) → NoAsk p i m (Sent f) before
-    silent never = record { sent = never; got = λ g o. absurd (false≢true g) }
+    no_ask : (is_of (tot_of_key m) f ≡ true → m.origin ≡ i → ⊥) → NoAsk p i m (Sent f) before
+    no_ask never = record { sent = never; got = λ g o. absurd (false≢true g) }
 
     by_own : (b : Bool) → (same_class f.class class.Tot && f.node == i) ≡ b → (d : Bool) → is_of (accept_of_key m) (accept_frame f) ≡ d → R
     by_own false e d q = inl (
       rw e refl,
-      silent (λ s o.
+      no_ask (λ s o.
           let same : tot_of_key m ≡ identity_of f = same_identity-true (tot_of_key m) (identity_of f) s in
           let node : f.node ≡ i = sym (ap (λ (y : Identity). y.node) same) ∙ o in
           both_ways (same_class f.class class.Tot && f.node == i) e
@@ -280,7 +280,7 @@ sent_cases p i m f before = by_own (same_class f.class class.Tot && f.node == i)
         ))
     by_own true e false q = inl (
       rw (e, q) refl,
-      silent (λ s o.
+      no_ask (λ s o.
           let same : tot_of_key m ≡ identity_of f = same_identity-true (tot_of_key m) (identity_of f) s in
           both_ways (is_of (accept_of_key m) (accept_frame f)) q
           (same_identity-from (accept_of_key m) (identity_of (accept_frame f))
@@ -295,19 +295,19 @@ abbrev got_asks : Parameters → FrameParts → List NoticeKind → List Effect
 got_asks p f before = if is_in_time p f before then eager_effects p.omit f (after_place (message_in f) (Got f ∷ before)) else []
 
 got_cases : (p : Parameters) (i : ℕ) (m : MsgKey) (f : FrameParts) (before : List NoticeKind)
-    → AcceptCases p i m (Got f) before (word (accept_of_key m) (got_asks p f before))
+    → AcceptCases p i m (Got f) before (last_effect (accept_of_key m) (got_asks p f before))
 got_cases p i m f before = by_test (is_in_time p f before) refl (is_of (accept_of_key m) f) refl
   where
     effects : List Effect
     effects = eager_effects p.omit f (after_place (message_in f) (Got f ∷ before))
 
     R : Type 0
-    R = AcceptCases p i m (Got f) before (word (accept_of_key m) (got_asks p f before))
+    R = AcceptCases p i m (Got f) before (last_effect (accept_of_key m) (got_asks p f before))
 
     by_test : (b : Bool) → is_in_time p f before ≡ b → (d : Bool) → is_of (accept_of_key m) f ≡ d → R
     by_test false e d q = inl (
       rw e refl,
-      silent_got p i m f before (λ mine in_time.
+      no_ask_got p i m f before (λ mine in_time.
           let a = accept_class m f mine in
           both_ways (is_in_time p f before) e
           (and_from (same_class f.class class.Accept) (can_be_accepted p.bound (message_in f) before) a.0
@@ -320,17 +320,17 @@ got_cases p i m f before = by_test (is_in_time p f before) refl (is_of (accept_o
         let now : got_asks p f before ≡ effects = rw e refl in
         let same : effects ≡ eager_effects p.omit f (after_place m (Got f ∷ before)) =
         ap (λ (k : MsgKey). eager_effects p.omit f (after_place k (Got f ∷ before))) a.1 in
-        rw (now ∙ same) (eager_word p i m f before q in_time)
+        rw (now ∙ same) (eager_last_effect p i m f before q in_time)
     by_test true e false q =
         let now : got_asks p f before ≡ effects = rw e refl in
         inl (
-          ap (word (accept_of_key m)) now ∙ eager_silent m f q p.omit (after_place (message_in f) (Got f ∷ before)),
-          silent_got p i m f before (λ mine _. both_ways (is_of (accept_of_key m) f) q mine),
+          ap (last_effect (accept_of_key m)) now ∙ eager_no_effect m f q p.omit (after_place (message_in f) (Got f ∷ before)),
+          no_ask_got p i m f before (λ mine _. both_ways (is_of (accept_of_key m) f) q mine),
         )
 
 -- what the notice does about the frame that accepts the message
 pub accept_cases : (p : Parameters) (i : ℕ) (m : MsgKey) (e : NoticeKind) (before : List NoticeKind)
-    → AcceptCases p i m e before (word (accept_of_key m) (accept_effects p i e before))
+    → AcceptCases p i m e before (last_effect (accept_of_key m) (accept_effects p i e before))
 unfolding accept_effects
 accept_cases p i m Idle before = inl (refl, record { sent = λ s o. false≢true s; got = λ g o. absurd (false≢true g) })
 accept_cases p i m Bad before = inl (refl, record { sent = λ s o. false≢true s; got = λ g o. absurd (false≢true g) })
@@ -339,17 +339,17 @@ accept_cases p i m (Got f) before = got_cases p i m f before
 
 -- ---- the data frame
 
--- a turn has the word of the backlog
-pub data_word : (m : MsgKey) (scenario : ScenarioParts) (i : ℕ) (e : NoticeKind) (before : List NoticeKind)
-    → word (tot_of_key m) (turn_effects scenario i (e ∷ before))
-    ≡ word (tot_of_key m) (ask_for (next_after scenario.params (e ∷ before) (backlog scenario i (e ∷ before)) (asked scenario i before)))
+-- the last effect of a turn is that of the backlog
+pub data_last_effect : (m : MsgKey) (scenario : ScenarioParts) (i : ℕ) (e : NoticeKind) (before : List NoticeKind)
+    → last_effect (tot_of_key m) (turn_effects scenario i (e ∷ before))
+    ≡ last_effect (tot_of_key m) (ask_for (next_after scenario.params (e ∷ before) (backlog scenario i (e ∷ before)) (asked scenario i before)))
 unfolding backlog_effects
-data_word m scenario i e before = turn_word scenario i (e ∷ before) (tot_of_key m) tot_backlog tot_alone
+data_last_effect m scenario i e before = turn_last_effect scenario i (e ∷ before) (tot_of_key m) tot_backlog tot_alone
 
--- the message that is asked for next is this one, or there is no word on its data frame
+-- the message that is asked for next is this one, or nothing has an effect on its data frame
 pub asks_next : (m : MsgKey) (o : Option Message)
-    → ((word (tot_of_key m) (ask_for o) ≡ Silence) × ((k : Message) → o ≡ Some k → data_id k ≡ tot_of_key m → ⊥))
-    ⊎ ((k : Message) × (o ≡ Some k) × (data_id k ≡ tot_of_key m) × (word (tot_of_key m) (ask_for o) ≡ Asked (data_frame k)))
+    → ((last_effect (tot_of_key m) (ask_for o) ≡ NoEffect) × ((k : Message) → o ≡ Some k → data_id k ≡ tot_of_key m → ⊥))
+    ⊎ ((k : Message) × (o ≡ Some k) × (data_id k ≡ tot_of_key m) × (last_effect (tot_of_key m) (ask_for o) ≡ Asked (data_frame k)))
 asks_next m None = inl (refl, λ k e. absurd (cc))
 asks_next m (Some k) = elim (cases_Bool (is_of (tot_of_key m) (data_frame k))) [
   | inl mine ↦ inr (k, refl, sym (same_identity-true (tot_of_key m) (data_id k) mine), rw mine refl)
@@ -407,43 +407,43 @@ module _ (scenario : ScenarioParts) (i : ℕ) (e : NoticeKind) (before : List No
   abbrev after : List FrameParts
   after = waiting_after (turn_effects scenario i (e ∷ before)) W
 
-  by_words : (m : MsgKey) (c a : Word) → word (accept_of_key m) (closing_effects scenario.params.bound (e ∷ before)) ≡ c
-      → word (accept_of_key m) (accept_effects scenario.params i e before) ≡ a
-      → waits (accept_of_key m) after ≡ waits_word (later c a) (waits (accept_of_key m) W)
-  by_words m c a ec ea =
+  by_last_effects : (m : MsgKey) (c a : LastEffect) → last_effect (accept_of_key m) (closing_effects scenario.params.bound (e ∷ before)) ≡ c
+      → last_effect (accept_of_key m) (accept_effects scenario.params i e before) ≡ a
+      → waits (accept_of_key m) after ≡ waits_by_last_effect (later c a) (waits (accept_of_key m) W)
+  by_last_effects m c a ec ea =
       turn_waits (accept_of_key m) (turn_effects scenario i (e ∷ before)) W
-      ∙ ap (λ w. waits_word w (waits (accept_of_key m) W)) (accept_word m scenario i e before)
-      ∙ ap (λ x. waits_word (later x (word (accept_of_key m) (accept_effects scenario.params i e before))) (waits (accept_of_key m) W)) ec
-      ∙ ap (λ x. waits_word (later c x) (waits (accept_of_key m) W)) ea
+      ∙ ap (λ w. waits_by_last_effect w (waits (accept_of_key m) W)) (accept_last_effect m scenario i e before)
+      ∙ ap (λ x. waits_by_last_effect (later x (last_effect (accept_of_key m) (accept_effects scenario.params i e before))) (waits (accept_of_key m) W)) ec
+      ∙ ap (λ x. waits_by_last_effect (later c x) (waits (accept_of_key m) W)) ea
 
   -- a turn that closes the message leaves no frame that accepts it
-  none_closed : (m : MsgKey) → word (accept_of_key m) (closing_effects scenario.params.bound (e ∷ before)) ≡ Withdrawn
+  none_closed : (m : MsgKey) → last_effect (accept_of_key m) (closing_effects scenario.params.bound (e ∷ before)) ≡ Withdrawn
       → waits (accept_of_key m) after ≡ true → ⊥
   none_closed m closes h =
-      false≢true (sym (by_words m Withdrawn (word (accept_of_key m) (accept_effects scenario.params i e before)) closes refl) ∙ h)
+      false≢true (sym (by_last_effects m Withdrawn (last_effect (accept_of_key m) (accept_effects scenario.params i e before)) closes refl) ∙ h)
 
-  -- the notice asks for the frame that accepts the message, with this word
+  -- the notice asks for the frame that accepts the message, as its last effect
   abbrev pub AsksAccept : MsgKey → Type 0
-  AsksAccept m = (f : FrameParts) × (word (accept_of_key m) (accept_effects scenario.params i e before) ≡ Asked f)
+  AsksAccept m = (f : FrameParts) × (last_effect (accept_of_key m) (accept_effects scenario.params i e before) ≡ Asked f)
 
   -- a frame that accepts and waits after the turn, waited before it, or the notice asks for it
   pub asked_then : (m : MsgKey) → waits (accept_of_key m) (waiting_after (turn_effects scenario i (e ∷ before)) W) ≡ true
       → (waits (accept_of_key m) W ≡ true) ⊎ (AsksAccept m × AskCause scenario.params i m e before)
-  asked_then m h = elim (closing_word scenario.params.bound m (e ∷ before)) [
+  asked_then m h = elim (closing_last_effect scenario.params.bound m (e ∷ before)) [
     | inr closes ↦ absurd (none_closed m closes.0 h)
-    | inl silent ↦ elim (accept_cases scenario.params i m e before) [
-      | inl none ↦ inl (sym (by_words m Silence Silence silent.0 none.0) ∙ h)
+    | inl no_effect ↦ elim (accept_cases scenario.params i m e before) [
+      | inl none ↦ inl (sym (by_last_effects m NoEffect NoEffect no_effect.0 none.0) ∙ h)
       | inr (inl asks) ↦ inr ((asks.0, asks.1), asks.2)
-      | inr (inr many) ↦ absurd (false≢true (sym (by_words m Silence Withdrawn silent.0 many.0) ∙ h))
+      | inr (inr many) ↦ absurd (false≢true (sym (by_last_effects m NoEffect Withdrawn no_effect.0 many.0) ∙ h))
     ]
   ]
 
   -- and the message is not closed by the turn
   pub waits_then : (m : MsgKey) → waits (accept_of_key m) (waiting_after (turn_effects scenario i (e ∷ before)) W) ≡ true
       → ((waits (accept_of_key m) W ≡ true) ⊎ AskCause scenario.params i m e before) × (IsClosing scenario.params.bound m (e ∷ before) → ⊥)
-  waits_then m h = elim (closing_word scenario.params.bound m (e ∷ before)) [
+  waits_then m h = elim (closing_last_effect scenario.params.bound m (e ∷ before)) [
     | inr closes ↦ absurd (none_closed m closes.0 h)
-    | inl silent ↦ (elim (asked_then m h) [ inl old ↦ inl old | inr asks ↦ inr asks.1 ], silent.1)
+    | inl no_effect ↦ (elim (asked_then m h) [ inl old ↦ inl old | inr asks ↦ inr asks.1 ], no_effect.1)
   ]
 
   -- it waits, unless the message is closed or too many copies were read
@@ -454,22 +454,22 @@ module _ (scenario : ScenarioParts) (i : ℕ) (e : NoticeKind) (before : List No
 
   -- one that waited, waits on so
   pub waits_still : (m : MsgKey) → waits (accept_of_key m) W ≡ true → WaitsUnless m
-  waits_still m h = elim (closing_word scenario.params.bound m (e ∷ before)) [
+  waits_still m h = elim (closing_last_effect scenario.params.bound m (e ∷ before)) [
     | inr closes ↦ inr (inl closes.1)
-    | inl silent ↦ elim (accept_cases scenario.params i m e before) [
-      | inl none ↦ inl (by_words m Silence Silence silent.0 none.0 ∙ h)
-      | inr (inl asks) ↦ inl (by_words m Silence (Asked asks.0) silent.0 asks.1)
+    | inl no_effect ↦ elim (accept_cases scenario.params i m e before) [
+      | inl none ↦ inl (by_last_effects m NoEffect NoEffect no_effect.0 none.0 ∙ h)
+      | inr (inl asks) ↦ inl (by_last_effects m NoEffect (Asked asks.0) no_effect.0 asks.1)
       | inr (inr many) ↦ inr (inr many.1)
     ]
   ]
 
   -- a notice does not make the node ask for it, or it waits so
   pub now_cases : (m : MsgKey) → NoAsk scenario.params i m e before ⊎ WaitsUnless m
-  now_cases m = elim (closing_word scenario.params.bound m (e ∷ before)) [
+  now_cases m = elim (closing_last_effect scenario.params.bound m (e ∷ before)) [
     | inr closes ↦ inr (inr (inl closes.1))
-    | inl silent ↦ elim (accept_cases scenario.params i m e before) [
+    | inl no_effect ↦ elim (accept_cases scenario.params i m e before) [
       | inl none ↦ inl none.1
-      | inr (inl asks) ↦ inr (inl (by_words m Silence (Asked asks.0) silent.0 asks.1))
+      | inr (inl asks) ↦ inr (inl (by_last_effects m NoEffect (Asked asks.0) no_effect.0 asks.1))
       | inr (inr many) ↦ inr (inr (inr many.1))
     ]
   ]
@@ -486,9 +486,9 @@ module _ (scenario : ScenarioParts) (i : ℕ) (e : NoticeKind) (before : List No
       → (waits (tot_of_key m) W ≡ true) ⊎ IsNextMessage m
   data_then m h =
       elim (asks_next m (next_after scenario.params (e ∷ before) (backlog scenario i (e ∷ before)) (asked scenario i before))) [
-        | inl silent ↦
+        | inl no_effect ↦
             inl (sym (turn_waits (tot_of_key m) (turn_effects scenario i (e ∷ before)) W
-            ∙ ap (λ w. waits_word w (waits (tot_of_key m) W)) (data_word m scenario i e before ∙ silent.0)) ∙ h)
+            ∙ ap (λ w. waits_by_last_effect w (waits (tot_of_key m) W)) (data_last_effect m scenario i e before ∙ no_effect.0)) ∙ h)
         | inr asks ↦ inr (asks.0, asks.1, asks.2)
       ]
 
@@ -496,11 +496,11 @@ module _ (scenario : ScenarioParts) (i : ℕ) (e : NoticeKind) (before : List No
   pub data_still : (m : MsgKey) → waits (tot_of_key m) W ≡ true → waits (tot_of_key m) (waiting_after (turn_effects scenario i (e ∷ before)) W) ≡ true
   data_still m h =
       turn_waits (tot_of_key m) (turn_effects scenario i (e ∷ before)) W
-      ∙ ap (λ w. waits_word w (waits (tot_of_key m) W)) (data_word m scenario i e before)
+      ∙ ap (λ w. waits_by_last_effect w (waits (tot_of_key m) W)) (data_last_effect m scenario i e before)
       ∙ by_next (next_after scenario.params (e ∷ before) (backlog scenario i (e ∷ before)) (asked scenario i before))
     where
-      by_next : (o : Option Message) → waits_word (word (tot_of_key m) (ask_for o)) (waits (tot_of_key m) W) ≡ true
+      by_next : (o : Option Message) → waits_by_last_effect (last_effect (tot_of_key m) (ask_for o)) (waits (tot_of_key m) W) ≡ true
       by_next o = elim (asks_next m o) [
-        | inl silent ↦ ap (λ w. waits_word w (waits (tot_of_key m) W)) silent.0 ∙ h
-        | inr asks ↦ ap (λ w. waits_word w (waits (tot_of_key m) W)) asks.3
+        | inl no_effect ↦ ap (λ w. waits_by_last_effect w (waits (tot_of_key m) W)) no_effect.0 ∙ h
+        | inr asks ↦ ap (λ w. waits_by_last_effect w (waits (tot_of_key m) W)) asks.3
       ]

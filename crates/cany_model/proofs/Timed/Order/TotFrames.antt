@@ -32,7 +32,7 @@ use Rattle.cany_model.proofs.Runs.FrameInvariants.{HoldsOfFrames, IsKeptByFrames
 use Rattle.cany_model.proofs.Runs.Runs.{IsOrderly, history-length}
 use Rattle.cany_model.proofs.Bus.States.{no_note, note_at}
 use Rattle.cany_model.proofs.Runs.Steps.{MayTurn, next_notice}
-use Rattle.cany_model.proofs.Runs.Waits.{AsksOnly}
+use Rattle.cany_model.proofs.Rules.Waits.{AsksOnly}
 use Rattle.cany_model.proofs.Promises.EachNode.{EachRunning, each_running, waiting_has}
 use Rattle.cany_model.proofs.Promises.OwnSlotsAlone.{from_later}
 use Rattle.cany_model.proofs.Rules.MessageKeys.{IsOneOf, same_message}

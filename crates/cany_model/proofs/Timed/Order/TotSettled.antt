@@ -38,7 +38,7 @@ use Rattle.cany_model.proofs.Bus.Carried.{Carries, CarriesClean}
 use Rattle.cany_model.proofs.Bus.Identities.{same_class_self, same_identity-from, same_identity-true}
 use Rattle.cany_model.proofs.Runs.Runs.{orderly}
 use Rattle.cany_model.proofs.Bus.Seen.{history-is}
-use Rattle.cany_model.proofs.Runs.Waits.{Asks, Withdraws}
+use Rattle.cany_model.proofs.Rules.Waits.{Asks, Withdraws}
 use Rattle.cany_model.proofs.Promises.Agrees.{origin_sent}
 use Rattle.cany_model.proofs.Promises.Agreement.{IsAtRest, carried_read, owed_carried, sent_carried}
 use Rattle.cany_model.proofs.Promises.Diffusion.{Duty, IsDiffused}
@@ -48,7 +48,7 @@ use Rattle.cany_model.proofs.Promises.Firsts.{carried_has_first, first_is_first,
 use Rattle.cany_model.proofs.Promises.OneFrame.{only_frame}
 use Rattle.cany_model.proofs.Promises.SettledFacts.{settled_asked_or_late, settled_read, settled_waits}
 use Rattle.cany_model.proofs.Promises.Sources.{IsSourced, sourced}
-use Rattle.cany_model.proofs.Rules.Begun.{IsBegun, begun_before, begun_copies, begun_short}
+use Rattle.cany_model.proofs.Rules.IdleBeforeTakingPart.{IsBegun, begun_before, begun_copies, begun_short}
 use Rattle.cany_model.proofs.Rules.MessageKeys.{IsOneOf}
 use Rattle.cany_model.proofs.Rules.ProtocolFacts.{IsFounded, IsLawful, MayWithdraw, answered, asks_named, closes, enough, enough_accept, is_diffused, settles}
 use Rattle.cany_model.proofs.Rules.Protocols.{are_lawful}

@@ -19,12 +19,12 @@ use Rattle.cany_model.specs.Promises.Hypothesis.{count_together, is_partial, is_
 use Rattle.cany_model.specs.Rules.Totcan.{holds, tot_of_key}
 use Rattle.cany_model.proofs.Among.{Contains-cons, Contains-head}
 use Rattle.cany_model.proofs.Bus.Carried.{Carries, is_got-from, is_got-true, is_sent-from, is_sent-true}
-use Rattle.cany_model.proofs.Bus.Counting.{verdict_not_silent}
-use Rattle.cany_model.proofs.Bus.Identities.{count_together-itself, same_identity-from, same_identity-true}
+use Rattle.cany_model.proofs.Promises.CleanSlots.{verdict_not_silent, count_together-itself}
+use Rattle.cany_model.proofs.Bus.Identities.{same_identity-from, same_identity-true}
 use Rattle.cany_model.proofs.Bus.Notes.{given-Got, given-Sent, given_sender, given_taker, note_of-offered, running_takes, sender_waits, taker_accepts, waiting_sends, waits_with-from_Contains}
 use Rattle.cany_model.proofs.Bus.States.{note_at, runs_within}
 use Rattle.cany_model.proofs.Runs.Steps.{kept_at}
-use Rattle.cany_model.proofs.Runs.Waits.{waits-from_with, waits-from_without, waits-without}
+use Rattle.cany_model.proofs.Rules.Waits.{waits-from_with, waits-from_without, waits-without}
 use Rattle.cany_model.proofs.Timed.Common.Ages.{Clean, Sends, carries, carries_clean}
 use Rattle.cany_model.proofs.Timed.Order.TotKept.{NoSilent}
 

@@ -1,10 +1,10 @@
 -- From a quiet slot of the exchange of a membership cycle on no vector of the cycle is carried, and nobody waits with one.
-use Rattle.std.proofs.Common.{◌≡◌, ℕ, suc, ◌+◌, ◌-◌, ◌*◌, ◌/◌, ◌%◌, ◌<◌, ◌≤◌, ◌⊎◌, inl, inr, Bool, true, false, nat_lt, List, [], ◌∷◌, ◌++◌, length, map, drop, Option, Some, None, Contains, refl, ap, sym, ◌∙◌, subst, arith, append-nil, append_assoc, length-append, length-drop, mul-le-mul_left}
+use Rattle.std.proofs.Common.{◌≡◌, ℕ, suc, ◌+◌, ◌-◌, ◌*◌, ◌<◌, ◌≤◌, ◌⊎◌, inl, inr, Bool, true, false, nat_lt, List, [], ◌∷◌, ◌++◌, length, map, drop, Option, Some, None, Contains, refl, ap, sym, ◌∙◌, subst, arith, append-nil, append_assoc, length-append, length-drop}
 use Rattle.std.proofs.Math.Nat.{div-lt_iff_lt-mul}
 use Rattle.std.specs.List.{AllByRecursion, list_any}
 use Rattle.std.proofs.Math.Seq.{drop-append-add}
 use Rattle.std.proofs.lemmas.Bool.{and_from, both_ways, cases_eq, cases_lt, cases_order, lt-ltb}
-use Rattle.std.proofs.lemmas.List.{length-map, length-replicate, map-append}
+use Rattle.std.proofs.lemmas.List.{length-map, map-append}
 use Rattle.std.proofs.lemmas.Nat.{le-div}
 use Rattle.cany_base.specs.Limits.{most_nodes}
 use Rattle.cany_base.specs.declared.class.Class.TheVariants as class
@@ -20,10 +20,10 @@ use Rattle.cany_base.specs.Params.{Parameters}
 use Rattle.cany_base.specs.Scenario.{ScenarioParts}
 use Rattle.cany_model.specs.Bus.Frames.{Identity, identity_of, is_of, same_class}
 use Rattle.cany_model.specs.Bus.History.{as_seen, given, history, seen, trace_for}
-use Rattle.cany_model.specs.Bus.Restart.{after_restarts, first_cycle, next_incarnation}
+use Rattle.cany_model.specs.Bus.Restart.{after_restarts, first_cycle}
 use Rattle.cany_model.specs.Runs.Run.{after_step, after_turn, is_done, proceed, reply, run}
 use Rattle.cany_model.specs.Bus.Slot.{FaultScript, after_slot, script, slot_note_of}
-use Rattle.cany_model.specs.Bus.State.{Incarnation, NodeState, RunState, fresh, node_at, opening, original, runs, slots_run}
+use Rattle.cany_model.specs.Bus.State.{Incarnation, NodeState, RunState, node_at, opening, runs}
 use Rattle.cany_model.specs.Promises.Quiet.{IsQuiet, asks_as, asks_at, asks_for_first_class}
 use Rattle.cany_model.specs.Rules.Effect.{waiting_after}
 use Rattle.cany_model.specs.Rules.Notices.{is_early_frame}
@@ -34,10 +34,10 @@ use Rattle.cany_model.proofs.Bus.Identities.{same_class_self, same_identity-true
 use Rattle.cany_model.proofs.Runs.Journals.{run_push, step_is, step_refused}
 use Rattle.cany_model.proofs.Bus.Notes.{given-Got, note_of-offered}
 use Rattle.cany_model.proofs.Bus.Restarts.{after_restarts-trace, restarts_or_stays}
-use Rattle.cany_model.proofs.Runs.Runs.{IsOrderly, along_run, orderly, turn_done}
+use Rattle.cany_model.proofs.Runs.Runs.{IsOrderly, orderly, turn_done}
 use Rattle.cany_model.proofs.Bus.Seen.{Numbered, history-is, length-seen, seen_frame, trace_for-is}
-use Rattle.cany_model.proofs.Bus.States.{each_in_front, node_at-opening, node_at_past, note_at, runs_within}
-use Rattle.cany_model.proofs.Runs.Steps.{MayTurn, after_slot-length, after_slot-present, after_slot-trace, after_slot-unread, after_slot-waiting, after_turn-node, after_turn-other, after_turn-present, after_turn-runs, after_turn-trace, next_notice, running_before_slot}
+use Rattle.cany_model.proofs.Bus.States.{each_in_front, note_at, runs_within}
+use Rattle.cany_model.proofs.Runs.Steps.{MayTurn, after_slot-present, after_slot-trace, after_slot-unread, after_slot-waiting, after_turn-node, after_turn-other, after_turn-present, after_turn-runs, after_turn-trace, next_notice, running_before_slot}
 use Rattle.cany_model.proofs.Promises.OwnSlotsAlone.{AllWaitForOwnSlots, IsTimely, own_slots_alone_run, own_slots_alone_turns, run_numbered}
 use Rattle.cany_model.proofs.Promises.FirstCycles.{has_first_cycle}
 use Rattle.cany_model.proofs.Promises.KeptVectors.{vector_at}
@@ -51,8 +51,8 @@ use Rattle.cany_model.proofs.Timed.Order.TotRun.{past_next}
 use Rattle.cany_model.proofs.Timed.Views.VectorHeld.{held_none, held_some}
 use Rattle.cany_model.proofs.Timed.Views.VectorQuiet.{CarriedLate, SeesCycle, held_unasked, none_held}
 use Rattle.cany_model.proofs.Timed.Views.VectorTurns.{turn_ends, turn_exchanges, turn_other, turn_outside}
-use Rattle.cany_model.proofs.Timed.Views.VectorLastEffect.{IsCycle, brings, brought_word}
-use Rattle.cany_model.proofs.Timed.Common.LastEffect.{Silence, Withdrawn, by_word, held, held_after, word}
+use Rattle.cany_model.proofs.Timed.Views.VectorLastEffect.{IsCycle, brings, brought_last_effect}
+use Rattle.cany_model.proofs.Timed.Common.LastEffect.{NoEffect, Withdrawn, by_last_effect, held, held_after, last_effect}
 
 -- ---- incarnations
 
@@ -148,18 +148,18 @@ abbrev pub NoneWaits : ℕ → RunState → Type 0
 NoneWaits k s = (i : ℕ) → runs (node_at s.nodes i) ≡ true → (r : ℕ) → held (rha_of k r) (node_at s.nodes i).waiting ≡ []
 
 -- since an earlier state no slot carried one of it, nobody waits with one, and a node that takes part since the cycle starts ran then
-pub record CalmCycle (p : Parameters) (k : ℕ) (base s : RunState) : Type 0 where
+pub record NoVectorSince (p : Parameters) (k : ℕ) (base s : RunState) : Type 0 where
   pub newer : List SlotNote
   pub trace : s.trace ≡ newer ++ base.trace
-  pub calm : AllByRecursion (NoVector k) newer
+  pub no_vectors : AllByRecursion (NoVector k) newer
   pub there : (i : ℕ) → runs (node_at s.nodes i) ≡ true → (node_at s.nodes i).present.from ≤ k * p.cycle → IsStaying base newer i (node_at s.nodes i)
   pub none : NoneWaits k s
 
-calm_first : (scenario : ScenarioParts) (k : ℕ) (base : RunState) → IsQuiet scenario base → CalmCycle scenario.params k base base
-calm_first scenario k base quiet = record {
+no_vector_first : (scenario : ScenarioParts) (k : ℕ) (base : RunState) → IsQuiet scenario base → NoVectorSince scenario.params k base base
+no_vector_first scenario k base quiet = record {
   newer = [];
   trace = refl;
-  calm = tt;
+  no_vectors = tt;
   there = λ i running from. record { ran = running; same = refl; unread = omega arith };
   none = λ i running r. none_held k r (node_at base.nodes i).waiting (quiet.waits i running);
 }
@@ -171,12 +171,12 @@ no_vector k rules s none f frame rha number =
     let mine : rha_of k f.node ≡ identity_of f = λ d. record { class = sym rha d; number = sym number d; node = f.node } in
     held_some (rha_of k f.node) f (node_at s.nodes offer.node).waiting mine offer.waits (none offer.node offer.running f.node)
 
-calm_slot : (p : Parameters) (k : ℕ) (base : RunState) (rules : FaultScript) (s : RunState) → CalmCycle p k base s
-    → CalmCycle p k base (after_slot rules s)
-calm_slot p k base rules s h = record {
+no_vector_slot : (p : Parameters) (k : ℕ) (base : RunState) (rules : FaultScript) (s : RunState) → NoVectorSince p k base s
+    → NoVectorSince p k base (after_slot rules s)
+no_vector_slot p k base rules s h = record {
   newer = slot_note_of rules s ∷ h.newer;
   trace = after_slot-trace rules s ∙ ap (λ t. slot_note_of rules s ∷ t) h.trace;
-  calm = (no_vector k rules s h.none, h.calm);
+  no_vectors = (no_vector k rules s h.none, h.no_vectors);
   there = λ i running from.
       let ran = (running_before_slot rules s i running).0 in
       let below = runs_within s.nodes i ran in
@@ -189,12 +189,12 @@ calm_slot p k base rules s h = record {
       ∙ held_none (rha_of k r) (given i (slot_note_of rules s)) (node_at s.nodes i).waiting (h.none i ran r);
 }
 
-calm_restarts : (scenario : ScenarioParts) (k : ℕ) (base s : RunState) → k * scenario.params.cycle < length base.trace
-    → CalmCycle scenario.params k base s → CalmCycle scenario.params k base (after_restarts scenario s)
-calm_restarts scenario k base s from h = record {
+no_vector_restarts : (scenario : ScenarioParts) (k : ℕ) (base s : RunState) → k * scenario.params.cycle < length base.trace
+    → NoVectorSince scenario.params k base s → NoVectorSince scenario.params k base (after_restarts scenario s)
+no_vector_restarts scenario k base s from h = record {
   newer = h.newer;
   trace = after_restarts-trace scenario s ∙ h.trace;
-  calm = h.calm;
+  no_vectors = h.no_vectors;
   there = λ i running early. elim (restarts_or_stays scenario s i) [
     | inl new ↦
         let long : length s.trace ≡ length h.newer + length base.trace = ap length h.trace ∙ length-append h.newer base.trace in
@@ -233,43 +233,43 @@ brings_none format i k note none = by_notice (given i note) refl
 
 module _ (scenario : ScenarioParts) (k i : ℕ) (c : IsCycle scenario.params k) where
   -- the turn of such a notice after the start of the cycle asks for no vector of it
-  calm_word : (e : NoticeKind) (before : List NoticeKind) → k * scenario.params.cycle < length before → brings scenario.params.format k e ≡ None
-      → (word (rha_of k i) (turn_effects scenario i (e ∷ before)) ≡ Silence) ⊎ (word (rha_of k i) (turn_effects scenario i (e ∷ before)) ≡ Withdrawn)
-  calm_word e before from none = elim (cases_order (length before) (k * scenario.params.cycle + scenario.params.bound)) [
-    | inl at ↦ elim (turn_ends scenario k i c e before at).word [ inl gone ↦ inr gone | inr silent ↦ inl silent.0 ]
-    | inr (inl earlier) ↦ inl ((turn_exchanges scenario k i c e before from earlier).word
-        ∙ ap (brought_word scenario.params scenario.inc k i (e ∷ before) (vector_at scenario i before)) none)
+  asks_no_vector : (e : NoticeKind) (before : List NoticeKind) → k * scenario.params.cycle < length before → brings scenario.params.format k e ≡ None
+      → (last_effect (rha_of k i) (turn_effects scenario i (e ∷ before)) ≡ NoEffect) ⊎ (last_effect (rha_of k i) (turn_effects scenario i (e ∷ before)) ≡ Withdrawn)
+  asks_no_vector e before from none = elim (cases_order (length before) (k * scenario.params.cycle + scenario.params.bound)) [
+    | inl at ↦ elim (turn_ends scenario k i c e before at).last_effect [ inl gone ↦ inr gone | inr no_effect ↦ inl no_effect.0 ]
+    | inr (inl earlier) ↦ inl ((turn_exchanges scenario k i c e before from earlier).last_effect
+        ∙ ap (brought_last_effect scenario.params scenario.inc k i (e ∷ before) (vector_at scenario i before)) none)
     | inr (inr later) ↦ inl (turn_outside scenario k i c e before (inr later))
   ]
 
-  calm_notice : (e : NoticeKind) (before : List NoticeKind) → k * scenario.params.cycle < length before → brings scenario.params.format k e ≡ None
+  no_vector_notice : (e : NoticeKind) (before : List NoticeKind) → k * scenario.params.cycle < length before → brings scenario.params.format k e ≡ None
       → (w : List FrameParts) (r : ℕ) → held (rha_of k r) w ≡ [] → held (rha_of k r) (waiting_after (turn_effects scenario i (e ∷ before)) w) ≡ []
-  calm_notice e before from none w r free =
+  no_vector_notice e before from none w r free =
       held_after (rha_of k r) (turn_effects scenario i (e ∷ before)) w ∙ elim (cases_eq r i) [
         | inl mine ↦
-            subst (λ q. by_word (word (rha_of k q) (turn_effects scenario i (e ∷ before))) (held (rha_of k q) w) ≡ []) (sym mine)
-            (elim (calm_word e before from none) [
-              | inl silent ↦ ap (λ z. by_word z (held (rha_of k i) w)) silent ∙ subst (λ q. held (rha_of k q) w ≡ []) mine free
-              | inr gone ↦ ap (λ z. by_word z (held (rha_of k i) w)) gone
+            subst (λ q. by_last_effect (last_effect (rha_of k q) (turn_effects scenario i (e ∷ before))) (held (rha_of k q) w) ≡ []) (sym mine)
+            (elim (asks_no_vector e before from none) [
+              | inl no_effect ↦ ap (λ z. by_last_effect z (held (rha_of k i) w)) no_effect ∙ subst (λ q. held (rha_of k q) w ≡ []) mine free
+              | inr gone ↦ ap (λ z. by_last_effect z (held (rha_of k i) w)) gone
             ])
         | inr other ↦
-            ap (λ z. by_word z (held (rha_of k r) w)) (turn_other scenario i e before k r (λ q. other (ap (λ (y : Identity). y.node) q))) ∙ free
+            ap (λ z. by_last_effect z (held (rha_of k r) w)) (turn_other scenario i e before k r (λ q. other (ap (λ (y : Identity). y.node) q))) ∙ free
       ]
 
 -- The turn of a notice of the newer slots, none of which carried a vector of the cycle, or of one of the older slots that were unread when
 -- none of their turns would have asked for a vector.
-calm_waits : (scenario : ScenarioParts) (k i : ℕ) → IsCycle scenario.params k → (newer older : List SlotNote) → AllByRecursion (NoVector k) newer
+no_vector_waits : (scenario : ScenarioParts) (k i : ℕ) → IsCycle scenario.params k → (newer older : List SlotNote) → AllByRecursion (NoVector k) newer
     → k * scenario.params.cycle < length older → (u unread : ℕ) → 0 < u → u ≤ length (newer ++ older) → u ≤ length newer + unread
     → ((age : ℕ) → age < unread → list_any asks_for_first_class (turn_effects scenario i (past i older age)) ≡ false)
     → (w : List FrameParts) (r : ℕ) → held (rha_of k r) w ≡ []
     → held (rha_of k r) (waiting_after (turn_effects scenario i (gave i (newer ++ older) (u - 1) ∷ past i (newer ++ older) u)) w) ≡ []
-calm_waits scenario k i c newer older calm from u unread some short few asks w r free = elim (cases_lt (u - 1) (length newer)) [
+no_vector_waits scenario k i c newer older no_vectors from u unread some short few asks w r free = elim (cases_lt (u - 1) (length newer)) [
   | inl new ↦
       let size : length (past i (newer ++ older) u) ≡ length (newer ++ older) - u =
       length-map (drop u (newer ++ older)) (given i) ∙ length-drop u (newer ++ older) in
-      calm_notice scenario k i c (gave i (newer ++ older) (u - 1)) (past i (newer ++ older) u)
+      no_vector_notice scenario k i c (gave i (newer ++ older) (u - 1)) (past i (newer ++ older) u)
       (omega (arith, size, length-append newer older, from, new, some))
-      (brings_none scenario.params.format i k (note_at (newer ++ older) (u - 1)) (each_in_front (NoVector k) newer older (u - 1) calm new)) w r free
+      (brings_none scenario.params.format i k (note_at (newer ++ older) (u - 1)) (each_in_front (NoVector k) newer older (u - 1) no_vectors new)) w r free
   | inr old ↦
       let m : ℕ = u - 1 - length newer in
       let split : u - 1 ≡ length newer + m = omega (arith, old) in
@@ -284,9 +284,9 @@ calm_waits scenario k i c newer older calm from u unread some short few asks w r
 ]
 
 -- what an incarnation sees carries none either
-pub calm_seen : (k : ℕ) (inc : Incarnation) (notes : List SlotNote) → AllByRecursion (NoVector k) notes → AllByRecursion (NoVector k) (seen inc notes)
-calm_seen k inc [] h = tt
-calm_seen k inc (note ∷ notes) h = (λ f frame. h.0 f (seen_frame inc note f frame), calm_seen k inc notes h.1)
+pub no_vector_seen : (k : ℕ) (inc : Incarnation) (notes : List SlotNote) → AllByRecursion (NoVector k) notes → AllByRecursion (NoVector k) (seen inc notes)
+no_vector_seen k inc [] h = tt
+no_vector_seen k inc (note ∷ notes) h = (λ f frame. h.0 f (seen_frame inc note f frame), no_vector_seen k inc notes h.1)
 
 -- none of the unread notices makes the node ask, told by what its incarnation sees
 pub unasked_seen : (scenario : ScenarioParts) (s : RunState) (i age : ℕ) → asks_at scenario s i age ≡ false
@@ -324,7 +324,7 @@ module _ (scenario : ScenarioParts) (k : ℕ) (c : IsCycle scenario.params k) (b
     abbrev after : RunState
     after = after_turn scenario i s
 
-    turn_none : AllWaitForOwnSlots after → (start < inc.from → IsAfterCycle k inc) → CalmCycle scenario.params k base s → (r : ℕ)
+    turn_none : AllWaitForOwnSlots after → (start < inc.from → IsAfterCycle k inc) → NoVectorSince scenario.params k base s → (r : ℕ)
         → held (rha_of k r) (node_at after.nodes i).waiting ≡ []
     turn_none own_slots_alone late h r = elim (cases_lt start inc.from) [
       | inl l ↦
@@ -351,21 +351,21 @@ module _ (scenario : ScenarioParts) (k : ℕ) (c : IsCycle scenario.params k) (b
           subst (λ (n : Incarnation). list_any asks_for_first_class (turn_effects (scenario_for scenario n) i (past i (seen n base.trace) age)) ≡ false)
           (sym was.same) (unasked_seen scenario base i age (quiet.asks i was.ran age l)) in
           ap (held (rha_of k r)) (waits ∙ ap (λ l. waiting_after (turn_effects (scenario_for scenario inc) i l) w) read)
-          ∙ calm_waits (scenario_for scenario inc) k i c newer older (calm_seen k inc h.newer h.calm)
+          ∙ no_vector_waits (scenario_for scenario inc) k i c newer older (no_vector_seen k inc h.newer h.no_vectors)
           (omega (arith, from, length-seen inc base.trace))
           u (node_at base.nodes i).unread may.unread (omega (arith, o.unread i, ap length whole, length-seen inc s.trace))
           (omega (arith, was.unread, length-seen inc h.newer)) unasked w r (h.none i may.running r)
     ]
 
-    calm_turn : AllWaitForOwnSlots after → (start < inc.from → IsAfterCycle k inc) → CalmCycle scenario.params k base s → CalmCycle scenario.params k base after
-    calm_turn own_slots_alone late h =
+    no_vector_turn : AllWaitForOwnSlots after → (start < inc.from → IsAfterCycle k inc) → NoVectorSince scenario.params k base s → NoVectorSince scenario.params k base after
+    no_vector_turn own_slots_alone late h =
         let short = o.unread i in
         let ran : (j : ℕ) → runs (node_at after.nodes j) ≡ true → runs (node_at s.nodes j) ≡ true =
         λ j running. sym (after_turn-runs scenario i s j may short) ∙ running in
         record {
           newer = h.newer;
           trace = after_turn-trace scenario i s ∙ h.trace;
-          calm = h.calm;
+          no_vectors = h.no_vectors;
           there = λ j running early.
               let same = after_turn-present scenario i s j may short in
               let was = h.there j (ran j running) (omega (arith, early, ap (λ (n : Incarnation). n.from) same)) in
@@ -391,24 +391,24 @@ module _ (scenario : ScenarioParts) (k : ℕ) (c : IsCycle scenario.params k) (b
 
 -- ---- the rest of a journal
 
-calm_step : (scenario : ScenarioParts) (k : ℕ) → IsCycle scenario.params k → (base : RunState) → IsQuiet scenario base
+no_vector_step : (scenario : ScenarioParts) (k : ℕ) → IsCycle scenario.params k → (base : RunState) → IsQuiet scenario base
     → k * scenario.params.cycle < length base.trace → (front : List Step) (next : Step) → is_done (reply scenario (run scenario front) next) ≡ true
-    → CalmCycle scenario.params k base (run scenario front) → CalmCycle scenario.params k base (proceed scenario (run scenario front) next)
+    → NoVectorSince scenario.params k base (run scenario front) → NoVectorSince scenario.params k base (proceed scenario (run scenario front) next)
 unfolding proceed
-calm_step scenario k c base quiet from front step.Slot done h =
+no_vector_step scenario k c base quiet from front step.Slot done h =
     let rules : FaultScript = script scenario.rules in
-    calm_restarts scenario k base (after_slot rules (run scenario front)) from (calm_slot scenario.params k base rules (run scenario front) h)
-calm_step scenario k c base quiet from front (step.Turn i) done h =
+    no_vector_restarts scenario k base (after_slot rules (run scenario front)) from (no_vector_slot scenario.params k base rules (run scenario front) h)
+no_vector_step scenario k c base quiet from front (step.Turn i) done h =
     let s : RunState = run scenario front in
     let o = orderly scenario front in
     let may = turn_done scenario s i o.count done in
-    calm_turn scenario k c base s quiet from i may o (own_slots_alone_turns scenario i s may o (own_slots_alone_run scenario front))
+    no_vector_turn scenario k c base s quiet from i may o (own_slots_alone_turns scenario i s may o (own_slots_alone_run scenario front))
     (after_cycle scenario front k i (omega (arith, c.long))) h
 
--- so the run of a journal is calm after a quiet slot of it
-pub calm_cycle : (scenario : ScenarioParts) (k : ℕ) → IsCycle scenario.params k → (front rest : List Step) → IsQuiet scenario (run scenario front)
+-- so the run of a journal is no_vectors after a quiet slot of it
+pub no_vector_cycle : (scenario : ScenarioParts) (k : ℕ) → IsCycle scenario.params k → (front rest : List Step) → IsQuiet scenario (run scenario front)
     → k * scenario.params.cycle < length (run scenario front).trace
-    → CalmCycle scenario.params k (run scenario front) (run scenario (front ++ rest))
-calm_cycle scenario k c front rest quiet from =
-    kept_after scenario (CalmCycle scenario.params k (run scenario front)) (calm_step scenario k c (run scenario front) quiet from) front rest
-    (calm_first scenario k (run scenario front) quiet)
+    → NoVectorSince scenario.params k (run scenario front) (run scenario (front ++ rest))
+no_vector_cycle scenario k c front rest quiet from =
+    kept_after scenario (NoVectorSince scenario.params k (run scenario front)) (no_vector_step scenario k c (run scenario front) quiet from) front rest
+    (no_vector_first scenario k (run scenario front) quiet)

@@ -34,7 +34,9 @@ use Rattle.cany_model.proofs.Among.{Each-drop, Each-weaker}
 use Rattle.cany_model.proofs.Bus.EachRead.{EachRead, each_dropped, each_of_trace}
 use Rattle.cany_model.proofs.Bus.Identities.{same_class_self}
 use Rattle.cany_model.proofs.Runs.Runs.{IsOrderly, orderly}
-use Rattle.cany_model.proofs.Bus.Seen.{HearsNoEarly, IsSeenPast, hears_no_early_of, history-is, length-seen, seen_frame, within_seen}
+use Rattle.cany_model.proofs.Bus.Seen.{IsSeenPast, history-is, length-seen, seen_frame}
+use Rattle.cany_model.proofs.Rules.NoEarlyVectors.{HearsNoEarly, hears_no_early_of}
+use Rattle.cany_model.proofs.Promises.WithinSeen.{within_seen}
 use Rattle.cany_model.proofs.Runs.SlotStates.{slot_state_is}
 use Rattle.cany_model.proofs.Bus.States.{runs_within}
 use Rattle.cany_model.proofs.Promises.WaitingIsAskable.{AllBelong, all_belong, readable_for, seen_readable}
@@ -48,7 +50,7 @@ use Rattle.cany_model.proofs.Rules.KnowledgeNodes.{IsVectorOfBus, first_members,
 use Rattle.cany_model.proofs.Rules.VectorFacts.{carries_vector}
 use Rattle.cany_model.proofs.Timed.Common.Ages.{past}
 use Rattle.cany_model.proofs.Timed.Windows.QuietSlots.{front_trace, within_dropped}
-use Rattle.cany_model.proofs.Timed.Views.NoLateVectors.{CalmCycle, IsAfterCycle, NoVector, after_cycle, brings_none, calm_cycle, calm_seen, carried_late, sees_cycle, unasked_seen}
+use Rattle.cany_model.proofs.Timed.Views.NoLateVectors.{NoVectorSince, IsAfterCycle, NoVector, after_cycle, brings_none, no_vector_cycle, no_vector_seen, carried_late, sees_cycle, unasked_seen}
 use Rattle.cany_model.proofs.Timed.Views.VectorQuiet.{CarriedLate, IsPlain, IsSettledNode, SeesCycle, none_held, one_vector_there, still_all}
 use Rattle.cany_model.proofs.Timed.Views.VectorSlots.{cycle_of_formulas}
 use Rattle.cany_model.proofs.Timed.Views.VectorSteps.{vector_kept}
@@ -91,29 +93,29 @@ module _ (scenario : ScenarioParts) (k i : ℕ) (c : IsCycle scenario.params k) 
   -- the vector stays while no vector of the cycle is carried
   vector_stays : (older newer : List SlotNote) → AllByRecursion (NoVector k) newer → start < length older → length (newer ++ older) ≤ end
       → vector_at scenario i (map (given i) (newer ++ older)) ≡ vector_at scenario i (map (given i) older)
-  vector_stays older [] calm from to = refl
-  vector_stays older (note ∷ newer) calm from to =
+  vector_stays older [] no_vectors from to = refl
+  vector_stays older (note ∷ newer) no_vectors from to =
       let before : List NoticeKind = map (given i) (newer ++ older) in
       let size : length before ≡ length (newer ++ older) = length-map (newer ++ older) (given i) in
       let ex = turn_exchanges scenario k i c (given i note) before (omega (arith, from, size, length-append newer older)) (omega (arith, to, size)) in
       ex.vector
       ∙ met_none scenario.params (vector_at scenario i before) (brings scenario.params.format k (given i note))
-      (brings_none scenario.params.format i k note calm.0)
-      ∙ vector_stays older newer calm.1 from (omega (arith, to))
+      (brings_none scenario.params.format i k note no_vectors.0)
+      ∙ vector_stays older newer no_vectors.1 from (omega (arith, to))
 
   installed_is : (older newer : List SlotNote) → AllByRecursion (NoVector k) newer → start < length older → length older ≤ end
       → end < length (newer ++ older) → installed_of scenario i k (map (given i) (newer ++ older)) ≡ vector_at scenario i (map (given i) older)
-  installed_is older [] calm from to ran = absurd (omega (arith, to, ran))
-  installed_is older (note ∷ newer) calm from to ran =
+  installed_is older [] no_vectors from to ran = absurd (omega (arith, to, ran))
+  installed_is older (note ∷ newer) no_vectors from to ran =
       let before : List NoticeKind = map (given i) (newer ++ older) in
       let size : length before ≡ length (newer ++ older) = length-map (newer ++ older) (given i) in
       elim (cases_eq (length (newer ++ older)) end) [
         | inl at ↦
-            installed_at (given i note) before (size ∙ at) (brings_none scenario.params.format i k note calm.0)
-            ∙ vector_stays older newer calm.1 from (omega (arith, at))
+            installed_at (given i note) before (size ∙ at) (brings_none scenario.params.format i k note no_vectors.0)
+            ∙ vector_stays older newer no_vectors.1 from (omega (arith, at))
         | inr other ↦
             installed_before scenario i k (given i note) before (λ e. other (sym size ∙ e))
-            ∙ installed_is older newer calm.1 from to (omega (arith, ran, other))
+            ∙ installed_is older newer no_vectors.1 from to (omega (arith, ran, other))
       ]
 
 -- ---- nodes that come later
@@ -256,7 +258,7 @@ module _ (scenario : ScenarioParts) (few : scenario.params.nodes ≤ most_nodes)
     -- ---- two nodes that have read the end of the cycle
 
     -- such a node installs the vector that it had, over all that it was given, in the state from which on nothing of the cycle is carried
-    installed_calm : (base s : RunState) → CalmCycle p k base s → k * p.cycle < slots_run base → slots_run base ≤ k * p.cycle + p.bound
+    installed_calm : (base s : RunState) → NoVectorSince p k base s → k * p.cycle < slots_run base → slots_run base ≤ k * p.cycle + p.bound
         → (i : ℕ) → (node_at s.nodes i).unread ≤ slots_run s → k * p.cycle + p.bound < reads s i
         → let inc = (node_at s.nodes i).present in
         installed scenario s i k ≡ vector_at (scenario_for scenario inc) i (map (given i) (seen inc base.trace))
@@ -275,7 +277,7 @@ module _ (scenario : ScenarioParts) (few : scenario.params.nodes ≤ most_nodes)
         let long : k * p.cycle + p.bound < length (drop u newer ++ older) =
         omega (arith, all, read, few_unread, length-append (drop u newer) older, length-drop u newer) in
         ap (installed_of (scenario_for scenario inc) i k) left
-        ∙ installed_is (scenario_for scenario inc) k i c older (drop u newer) (Each-drop (NoVector k) u newer (calm_seen k inc h.newer h.calm))
+        ∙ installed_is (scenario_for scenario inc) k i c older (drop u newer) (Each-drop (NoVector k) u newer (no_vector_seen k inc h.newer h.no_vectors))
         (omega (arith, from, size)) (omega (arith, to, size)) long
 
     alike_after : (front rest : List Step) → IsQuiet scenario (run scenario front) → IsWithin p (run scenario (front ++ rest)).trace
@@ -283,10 +285,10 @@ module _ (scenario : ScenarioParts) (few : scenario.params.nodes ≤ most_nodes)
         → (i j : ℕ) → HasReadEnd scenario (run scenario (front ++ rest)) k i → HasReadEnd scenario (run scenario (front ++ rest)) k j
         → installed scenario (run scenario (front ++ rest)) i k ≡ installed scenario (run scenario (front ++ rest)) j k
     alike_after front rest quiet within from to i j hi hj =
-        installed_calm base s calm from to i (o.unread i) hi.read
+        installed_calm base s no_vectors from to i (o.unread i) hi.read
         ∙ one_vector_there scenario fits k c base.trace (run_numbered p.nodes base (orderly scenario front)) (carried_late scenario front few k) i j
         (node_at s.nodes i).present (node_at s.nodes j).present (sees i hi) (sees j hj) (settled i hi) (settled j hj)
-        ∙ sym (installed_calm base s calm from to j (o.unread j) hj.read)
+        ∙ sym (installed_calm base s no_vectors from to j (o.unread j) hj.read)
       where
         base : RunState
         base = run scenario front
@@ -297,8 +299,8 @@ module _ (scenario : ScenarioParts) (few : scenario.params.nodes ≤ most_nodes)
         o : IsOrderly p.nodes s
         o = orderly scenario (front ++ rest)
 
-        calm : CalmCycle p k base s
-        calm = calm_cycle scenario k c front rest quiet from
+        no_vectors : NoVectorSince p k base s
+        no_vectors = no_vector_cycle scenario k c front rest quiet from
 
         part : (n : ℕ) × (base.trace ≡ drop n s.trace)
         part = front_trace scenario front rest
@@ -312,7 +314,7 @@ module _ (scenario : ScenarioParts) (few : scenario.params.nodes ≤ most_nodes)
         settled : (n : ℕ) → HasReadEnd scenario s k n
             → IsSettledNode (scenario_for scenario (node_at s.nodes n).present) k n (seen (node_at s.nodes n).present base.trace)
         settled n h =
-            let was = calm.there n h.correct.correct.running h.correct.took_part in
+            let was = no_vectors.there n h.correct.correct.running h.correct.took_part in
             subst (λ (inc : Incarnation). IsSettledNode (scenario_for scenario inc) k n (seen inc base.trace)) (sym was.same)
             (settled_node front quiet within_base from to n was.ran)
 

@@ -34,8 +34,8 @@ use Rattle.cany_model.proofs.Rules.KnowledgeNodes.{IsVectorOfBus, first_members,
 use Rattle.cany_model.proofs.Timed.Views.VectorHeld.{WaitedWith, held_none, held_slot, held_some}
 use Rattle.cany_model.proofs.Timed.Views.VectorSets.{meet_left, size, size_le, size_less, size_most}
 use Rattle.cany_model.proofs.Timed.Views.VectorTurns.{starts_with, turn_ends, turn_exchanges, turn_outside, turn_starts}
-use Rattle.cany_model.proofs.Timed.Views.VectorLastEffect.{IsCycle, brings, brought_word, met_word, start_word}
-use Rattle.cany_model.proofs.Timed.Common.LastEffect.{Word, Silence, Asked, Withdrawn, by_word, held, held_after, word}
+use Rattle.cany_model.proofs.Timed.Views.VectorLastEffect.{IsCycle, brings, brought_last_effect, met_last_effect, start_last_effect}
+use Rattle.cany_model.proofs.Timed.Common.LastEffect.{LastEffect, NoEffect, Asked, Withdrawn, by_last_effect, held, held_after, last_effect}
 use Rattle.cany_model.proofs.Timed.Views.ReadableNodes.{IsReadableNodes, each_readable}
 
 -- ---- what a node may still send
@@ -106,8 +106,8 @@ budget_slot scenario k i note trace past w sends h =
 
 -- ---- a turn
 
-few_left : (z : Word) (ws : List FrameParts) → ws ≡ [] → length (by_word z ws) ≤ 1
-few_left Silence ws e = omega (arith, ap length e)
+few_left : (z : LastEffect) (ws : List FrameParts) → ws ≡ [] → length (by_last_effect z ws) ≤ 1
+few_left NoEffect ws e = omega (arith, ap length e)
 few_left (Asked f) ws e = omega arith
 few_left Withdrawn ws e = omega arith
 
@@ -124,13 +124,13 @@ module _ (scenario : ScenarioParts) (k i : ℕ) (trace : List SlotNote) (all : L
   -- it has met its vector with one that a notice brought
   met_budget : (old : Option Nodes) (v : Nodes) → spent k i trace w + credit n old ≤ n + 1 → IsVectorOfBus p old
       → ((u : Nodes) → old ≡ Some u → IsPart v u) → AllBelow n v
-      → held x after ≡ by_word (met_word p scenario.inc k i all old v) (held x w)
+      → held x after ≡ by_last_effect (met_last_effect p scenario.inc k i all old v) (held x w)
       → spent k i trace after + size v n ≤ n + 1
   unfolding credit is_new
   met_budget None v b below part small now =
       let empty : held x w ≡ [] = nil_from_length (held x w) (omega (arith, b)) in
       let few : length (held x after) ≤ 1 =
-      subst (λ ws. length ws ≤ 1) (sym now) (few_left (met_word p scenario.inc k i all None v) (held x w) empty) in
+      subst (λ ws. length ws ≤ 1) (sym now) (few_left (met_last_effect p scenario.inc k i all None v) (held x w) empty) in
       omega (arith, few, b, size_most v n)
   met_budget (Some u) v b below part small now = by_covered (is_covered p k i v all) refl (u.bits == v.bits) refl
     where
@@ -153,7 +153,7 @@ module _ (scenario : ScenarioParts) (k i : ℕ) (trace : List SlotNote) (all : L
 
   exchange_budget : (old got : Option Nodes) → spent k i trace w + credit n old ≤ n + 1 → IsVectorOfBus p old
       → (now_has : Option Nodes) → now_has ≡ met p old got → IsVectorOfBus p now_has
-      → held x after ≡ by_word (brought_word p scenario.inc k i all old got) (held x w)
+      → held x after ≡ by_last_effect (brought_last_effect p scenario.inc k i all old got) (held x w)
       → spent k i trace after + credit n now_has ≤ n + 1
   unfolding credit met
   exchange_budget old None b below now_has is small now = omega (arith, ap length now, b, ap (credit n) is)
@@ -166,7 +166,7 @@ module _ (scenario : ScenarioParts) (k i : ℕ) (trace : List SlotNote) (all : L
       part o u e = subst (λ (q : Option Nodes). IsPart (met_with p q got) u) (sym e) (meet_left u got)
 
   start_budget : (start now_has : Option Nodes) → spent k i trace w ≡ 0 → now_has ≡ start
-      → held x after ≡ by_word (start_word p scenario.inc k i start) (held x w)
+      → held x after ≡ by_last_effect (start_last_effect p scenario.inc k i start) (held x w)
       → spent k i trace after + credit n now_has ≤ n + 1
   unfolding credit
   start_budget None now_has none is now = omega (arith, ap length now, none, ap (credit n) is)
@@ -184,9 +184,9 @@ budget_turn scenario k i c trace e past w below small h =
     let p : Parameters = scenario.params in
     let x : Identity = rha_of k i in
     let after : List FrameParts = waiting_after (turn_effects scenario i (e ∷ past)) w in
-    let now : held x after ≡ by_word (word x (turn_effects scenario i (e ∷ past))) (held x w) = held_after x (turn_effects scenario i (e ∷ past)) w in
-    let still : word x (turn_effects scenario i (e ∷ past)) ≡ Silence → held x after ≡ held x w =
-    λ silent. now ∙ ap (λ z. by_word z (held x w)) silent in
+    let now : held x after ≡ by_last_effect (last_effect x (turn_effects scenario i (e ∷ past))) (held x w) = held_after x (turn_effects scenario i (e ∷ past)) w in
+    let still : last_effect x (turn_effects scenario i (e ∷ past)) ≡ NoEffect → held x after ≡ held x w =
+    λ no_effect. now ∙ ap (λ z. by_last_effect z (held x w)) no_effect in
     record {
       early = λ n.
           let same = still (turn_outside scenario k i c e past (inl (omega (arith, n)))) in
@@ -195,23 +195,23 @@ budget_turn scenario k i c trace e past w below small h =
         | inl at ↦
             let starts = turn_starts scenario k i c e past at in
             start_budget scenario k i trace (e ∷ past) w after (starts_with scenario i e past) (vector_at scenario i (e ∷ past))
-            (h.early (omega (arith, at))) starts.vector (now ∙ ap (λ z. by_word z (held x w)) starts.word)
+            (h.early (omega (arith, at))) starts.vector (now ∙ ap (λ z. by_last_effect z (held x w)) starts.last_effect)
         | inr other ↦
             let from' : k * p.cycle < length past = omega (arith, from, other) in
             let ex = turn_exchanges scenario k i c e past from' (omega (arith, to)) in
             exchange_budget scenario k i trace (e ∷ past) w after (vector_at scenario i past) (brings p.format k e)
             (h.during from' (omega (arith, to))) below (vector_at scenario i (e ∷ past)) ex.vector small
-            (now ∙ ap (λ z. by_word z (held x w)) ex.word)
+            (now ∙ ap (λ z. by_last_effect z (held x w)) ex.last_effect)
       ];
       late = λ n. elim (cases_eq (length past) (k * p.cycle + p.bound)) [
         | inl at ↦
             let before = h.during (omega (arith, at, c.exchanged)) (omega (arith, at)) in
-            elim (turn_ends scenario k i c e past at).word [
+            elim (turn_ends scenario k i c e past at).last_effect [
               | inl gone ↦
-                  let none : held x after ≡ [] = now ∙ ap (λ z. by_word z (held x w)) gone in
+                  let none : held x after ≡ [] = now ∙ ap (λ z. by_last_effect z (held x w)) gone in
                   (omega (arith, ap length none, before), none)
-              | inr (silent, none) ↦
-                  let same = still silent in
+              | inr (no_effect, none) ↦
+                  let same = still no_effect in
                   let full : credit p.nodes (vector_at scenario i past) ≡ p.nodes + 1 = ap (credit p.nodes) none ∙ all_left p.nodes in
                   let empty : held x w ≡ [] = nil_from_length (held x w) (omega (arith, before, full)) in
                   (omega (arith, ap length same, before), same ∙ empty)

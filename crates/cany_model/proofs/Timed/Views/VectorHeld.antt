@@ -12,7 +12,7 @@ use Rattle.cany_model.specs.Rules.Effect.{Withdraw, waiting_after}
 use Rattle.cany_model.proofs.Among.{Among, Among-from_Contains}
 use Rattle.cany_model.proofs.Bus.Identities.{same_identity-from, same_identity-true}
 use Rattle.cany_model.proofs.Runs.Steps.{kept_at}
-use Rattle.cany_model.proofs.Timed.Common.LastEffect.{by_word, held, held_after, word}
+use Rattle.cany_model.proofs.Timed.Common.LastEffect.{by_last_effect, held, held_after, last_effect}
 
 pub other_identity : (x y : Identity) → x ≢ y → same_identity x y ≡ false
 other_identity x y other = false_from_ne_true (same_identity x y) (λ same. other (same_identity-true x y same))
@@ -32,7 +32,7 @@ held_some x f w e c none = subst (Among (λ g. g ≡ f)) none (held_among x f w 
 
 -- ---- a slot
 
-held_without : (x y : Identity) (w : List FrameParts) → held x (without y w) ≡ by_word (word x (Withdraw y ∷ [])) (held x w)
+held_without : (x y : Identity) (w : List FrameParts) → held x (without y w) ≡ by_last_effect (last_effect x (Withdraw y ∷ [])) (held x w)
 unfolding waiting_after
 held_without x y w = held_after x (Withdraw y ∷ []) w
 

@@ -1,4 +1,4 @@
--- Where a slot stands in a membership cycle, and the last word that each part of the exchange of vectors has there on a node's frame.
+-- Where a slot stands in a membership cycle, and the last effect that each part of the exchange of vectors has there on a node's frame.
 use Rattle.std.proofs.Common.{◌≡◌, ℕ, ◌+◌, ◌*◌, ◌/◌, ◌%◌, ◌<◌, ◌≤◌, ◌==◌, ◌&&◌, ◌≢◌, if◌then◌else◌, inl, inr, true, false, List, [], ◌∷◌, ◌++◌, length, Option, Some, None, nat_lt, nat_le, refl, ap, ◌∙◌, subst, arith}
 use Rattle.std.proofs.lemmas.Bool.{and_from, and_left, cases_Bool, cond-false, cond-true, cond_both, le-leb, lt-ltb, ne_eqb}
 use Rattle.std.proofs.lemmas.Nat.{div-mul-add, mod-mul-add}
@@ -13,7 +13,7 @@ use Rattle.cany_model.specs.Rules.Vectors.{brought, end_effects, ended, exchange
 use Rattle.cany_base.specs.Cycles.{cycle_of, is_end, is_exchange, is_start}
 use Rattle.cany_model.proofs.Bus.Identities.{same_identity_self}
 use Rattle.cany_model.proofs.Timed.Views.VectorHeld.{other_identity}
-use Rattle.cany_model.proofs.Timed.Common.LastEffect.{Word, Silence, Asked, Withdrawn, later, word, word-append}
+use Rattle.cany_model.proofs.Timed.Common.LastEffect.{LastEffect, NoEffect, Asked, Withdrawn, later, last_effect, last_effect-append}
 
 -- ---- slots of a cycle
 
@@ -56,7 +56,7 @@ no_start p k n q a some = at_start p k n q a ∙ and_left (q == 0) (nat_lt 0 k) 
 pub no_end : (p : Parameters) (k n q : ℕ) → IsAt p k n q → q ≢ p.bound → is_end p n ≡ false
 no_end p k n q a other = at_end p k n q a ∙ and_left (q == p.bound) (nat_lt 0 k) (ne_eqb q p.bound other)
 
--- ---- the words of the parts of the exchange
+-- ---- the last effects of the parts of the exchange
 
 module _ (p : Parameters) (inc i : ℕ) (e : NoticeKind) (past : List NoticeKind) (old start : Option Nodes) where
   abbrev pub slot : ℕ
@@ -74,94 +74,94 @@ module _ (p : Parameters) (inc i : ℕ) (e : NoticeKind) (past : List NoticeKind
   abbrev pub start_part : List Effect
   start_part = start_effects p inc i slot start
 
-  pub exchange_word : (x : Identity)
-      → word x (exchange_at p inc i e past old start) ≡ later (word x start_part) (later (word x end_part) (word x vector_part))
+  pub exchange_last_effect : (x : Identity)
+      → last_effect x (exchange_at p inc i e past old start) ≡ later (last_effect x start_part) (later (last_effect x end_part) (last_effect x vector_part))
   unfolding exchange_at
-  exchange_word x =
-      word-append x (vector_part ++ end_part) start_part ∙ ap (later (word x start_part)) (word-append x vector_part end_part)
+  exchange_last_effect x =
+      last_effect-append x (vector_part ++ end_part) start_part ∙ ap (later (last_effect x start_part)) (last_effect-append x vector_part end_part)
 
   -- the frames of other nodes and other cycles
 
   vector_other : (x : Identity) (w : Option Nodes) → x ≢ rha_of (cycle_of p slot) i
-      → word x (vector_effects p inc i slot (e ∷ past) old w) ≡ Silence
+      → last_effect x (vector_effects p inc i slot (e ∷ past) old w) ≡ NoEffect
   unfolding vector_effects
   vector_other x None other = refl
   vector_other x (Some w) other =
       let v : Nodes = met_with p old w in
       let none = other_identity x (rha_of (cycle_of p slot) i) other in
       cond_both (is_covered p (cycle_of p slot) i v (e ∷ past)) (Withdraw (rha_of (cycle_of p slot) i) ∷ [])
-      (if is_new old v then Ask (rha_frame p.format inc (cycle_of p slot) i v) ∷ [] else []) (λ es. word x es ≡ Silence)
+      (if is_new old v then Ask (rha_frame p.format inc (cycle_of p slot) i v) ∷ [] else []) (λ es. last_effect x es ≡ NoEffect)
       (λ _. rw none refl)
-      (λ _. cond_both (is_new old v) (Ask (rha_frame p.format inc (cycle_of p slot) i v) ∷ []) [] (λ es. word x es ≡ Silence)
+      (λ _. cond_both (is_new old v) (Ask (rha_frame p.format inc (cycle_of p slot) i v) ∷ []) [] (λ es. last_effect x es ≡ NoEffect)
       (λ _. rw none refl) (λ _. refl))
 
-  end_other : (x : Identity) (v : Option Nodes) → x ≢ rha_of (cycle_of p slot) i → word x (end_effects p i slot v) ≡ Silence
+  end_other : (x : Identity) (v : Option Nodes) → x ≢ rha_of (cycle_of p slot) i → last_effect x (end_effects p i slot v) ≡ NoEffect
   unfolding end_effects
   end_other x None other = refl
   end_other x (Some v) other = rw (other_identity x (rha_of (cycle_of p slot) i) other) refl
 
-  start_other : (x : Identity) (v : Option Nodes) → x ≢ rha_of (cycle_of p slot) i → word x (start_effects p inc i slot v) ≡ Silence
+  start_other : (x : Identity) (v : Option Nodes) → x ≢ rha_of (cycle_of p slot) i → last_effect x (start_effects p inc i slot v) ≡ NoEffect
   unfolding start_effects
   start_other x None other = refl
   start_other x (Some v) other =
-      cond_both (is_start p slot) (Ask (rha_frame p.format inc (cycle_of p slot) i v) ∷ []) [] (λ es. word x es ≡ Silence)
+      cond_both (is_start p slot) (Ask (rha_frame p.format inc (cycle_of p slot) i v) ∷ []) [] (λ es. last_effect x es ≡ NoEffect)
       (λ _. rw (other_identity x (rha_of (cycle_of p slot) i) other) refl) (λ _. refl)
 
-  pub exchange_other : (x : Identity) → x ≢ rha_of (cycle_of p slot) i → word x (exchange_at p inc i e past old start) ≡ Silence
+  pub exchange_other : (x : Identity) → x ≢ rha_of (cycle_of p slot) i → last_effect x (exchange_at p inc i e past old start) ≡ NoEffect
   exchange_other x other =
-      exchange_word x
-      ∙ ap (λ w. later w (later (word x end_part) (word x vector_part))) (start_other x start other)
-      ∙ ap (λ w. later w (word x vector_part)) (end_other x (ended p slot (met p old brings_now)) other)
+      exchange_last_effect x
+      ∙ ap (λ w. later w (later (last_effect x end_part) (last_effect x vector_part))) (start_other x start other)
+      ∙ ap (λ w. later w (last_effect x vector_part)) (end_other x (ended p slot (met p old brings_now)) other)
       ∙ vector_other x brings_now other
 
   -- where nothing is due
 
-  pub vector_idle : (x : Identity) → brings_now ≡ None → word x vector_part ≡ Silence
+  pub vector_idle : (x : Identity) → brings_now ≡ None → last_effect x vector_part ≡ NoEffect
   unfolding vector_effects
-  vector_idle x h = ap (λ w. word x (vector_effects p inc i slot (e ∷ past) old w)) h
+  vector_idle x h = ap (λ w. last_effect x (vector_effects p inc i slot (e ∷ past) old w)) h
 
-  pub end_idle : (x : Identity) → is_end p slot ≡ false → word x end_part ≡ Silence
+  pub end_idle : (x : Identity) → is_end p slot ≡ false → last_effect x end_part ≡ NoEffect
   unfolding end_effects
-  end_idle x h = ap (λ w. word x (end_effects p i slot w)) (cond-false (is_end p slot) (met p old brings_now) None h)
+  end_idle x h = ap (λ w. last_effect x (end_effects p i slot w)) (cond-false (is_end p slot) (met p old brings_now) None h)
 
-  pub start_idle : (x : Identity) → is_start p slot ≡ false → word x start_part ≡ Silence
+  pub start_idle : (x : Identity) → is_start p slot ≡ false → last_effect x start_part ≡ NoEffect
   unfolding start_effects
   start_idle x h = by_vector start
     where
-      by_vector : (v : Option Nodes) → word x (start_effects p inc i slot v) ≡ Silence
+      by_vector : (v : Option Nodes) → last_effect x (start_effects p inc i slot v) ≡ NoEffect
       by_vector None = refl
       by_vector (Some v) =
-          ap (word x) (cond-false (is_start p slot) (Ask (rha_frame p.format inc (cycle_of p slot) i v) ∷ []) [] h)
+          ap (last_effect x) (cond-false (is_start p slot) (Ask (rha_frame p.format inc (cycle_of p slot) i v) ∷ []) [] h)
 
 -- ---- what is asked for and withdrawn of the own frame
 
 -- what the node makes of a vector that a notice brings
-abbrev pub met_word : Parameters → ℕ → ℕ → ℕ → List NoticeKind → Option Nodes → Nodes → Word
-met_word p inc k i past old v =
-    if is_covered p k i v past then Withdrawn else if is_new old v then Asked (rha_frame p.format inc k i v) else Silence
+abbrev pub met_last_effect : Parameters → ℕ → ℕ → ℕ → List NoticeKind → Option Nodes → Nodes → LastEffect
+met_last_effect p inc k i past old v =
+    if is_covered p k i v past then Withdrawn else if is_new old v then Asked (rha_frame p.format inc k i v) else NoEffect
 
-abbrev pub brought_word : Parameters → ℕ → ℕ → ℕ → List NoticeKind → Option Nodes → Option Nodes → Word
-brought_word p inc k i past old None = Silence
-brought_word p inc k i past old (Some w) = met_word p inc k i past old (met_with p old w)
+abbrev pub brought_last_effect : Parameters → ℕ → ℕ → ℕ → List NoticeKind → Option Nodes → Option Nodes → LastEffect
+brought_last_effect p inc k i past old None = NoEffect
+brought_last_effect p inc k i past old (Some w) = met_last_effect p inc k i past old (met_with p old w)
 
 -- of the vector with which it starts, and of the one that it gives up
-abbrev pub start_word : Parameters → ℕ → ℕ → ℕ → Option Nodes → Word
-start_word p inc k i None = Silence
-start_word p inc k i (Some v) = Asked (rha_frame p.format inc k i v)
+abbrev pub start_last_effect : Parameters → ℕ → ℕ → ℕ → Option Nodes → LastEffect
+start_last_effect p inc k i None = NoEffect
+start_last_effect p inc k i (Some v) = Asked (rha_frame p.format inc k i v)
 
-abbrev pub end_word : Option Nodes → Word
-end_word None = Silence
-end_word (Some v) = Withdrawn
+abbrev pub end_last_effect : Option Nodes → LastEffect
+end_last_effect None = NoEffect
+end_last_effect (Some v) = Withdrawn
 
 pub vector_own : (p : Parameters) (inc k i slot : ℕ) (past : List NoticeKind) (old w : Option Nodes) → cycle_of p slot ≡ k
-    → word (rha_of k i) (vector_effects p inc i slot past old w) ≡ brought_word p inc k i past old w
+    → last_effect (rha_of k i) (vector_effects p inc i slot past old w) ≡ brought_last_effect p inc k i past old w
 unfolding vector_effects
 vector_own p inc k i slot past old None at = refl
 vector_own p inc k i slot past old (Some w) at =
-    subst (λ m. word (rha_of m i) (vector_effects p inc i slot past old (Some w)) ≡ met_word p inc m i past old (met_with p old w)) at now
+    subst (λ m. last_effect (rha_of m i) (vector_effects p inc i slot past old (Some w)) ≡ met_last_effect p inc m i past old (met_with p old w)) at now
   where
-    now : word (rha_of (cycle_of p slot) i) (vector_effects p inc i slot past old (Some w))
-        ≡ met_word p inc (cycle_of p slot) i past old (met_with p old w)
+    now : last_effect (rha_of (cycle_of p slot) i) (vector_effects p inc i slot past old (Some w))
+        ≡ met_last_effect p inc (cycle_of p slot) i past old (met_with p old w)
     now =
         let v : Nodes = met_with p old w in
         let mine = same_identity_self (rha_of (cycle_of p slot) i) in
@@ -173,21 +173,21 @@ vector_own p inc k i slot past old (Some w) at =
           ]
         ]
 
-pub end_own : (p : Parameters) (k i slot : ℕ) (v : Option Nodes) → cycle_of p slot ≡ k → word (rha_of k i) (end_effects p i slot v) ≡ end_word v
+pub end_own : (p : Parameters) (k i slot : ℕ) (v : Option Nodes) → cycle_of p slot ≡ k → last_effect (rha_of k i) (end_effects p i slot v) ≡ end_last_effect v
 unfolding end_effects
 end_own p k i slot None at = refl
 end_own p k i slot (Some v) at =
-    subst (λ m. word (rha_of m i) (Withdraw (rha_of (cycle_of p slot) i) ∷ []) ≡ Withdrawn) at
+    subst (λ m. last_effect (rha_of m i) (Withdraw (rha_of (cycle_of p slot) i) ∷ []) ≡ Withdrawn) at
     (rw (same_identity_self (rha_of (cycle_of p slot) i)) refl)
 
 pub start_own : (p : Parameters) (inc k i slot : ℕ) (v : Option Nodes) → is_start p slot ≡ true → cycle_of p slot ≡ k
-    → word (rha_of k i) (start_effects p inc i slot v) ≡ start_word p inc k i v
+    → last_effect (rha_of k i) (start_effects p inc i slot v) ≡ start_last_effect p inc k i v
 unfolding start_effects
 start_own p inc k i slot None starts at = refl
 start_own p inc k i slot (Some v) starts at =
-    subst (λ m. word (rha_of m i) (start_effects p inc i slot (Some v)) ≡ Asked (rha_frame p.format inc m i v)) at now
+    subst (λ m. last_effect (rha_of m i) (start_effects p inc i slot (Some v)) ≡ Asked (rha_frame p.format inc m i v)) at now
   where
-    now : word (rha_of (cycle_of p slot) i) (start_effects p inc i slot (Some v)) ≡ Asked (rha_frame p.format inc (cycle_of p slot) i v)
+    now : last_effect (rha_of (cycle_of p slot) i) (start_effects p inc i slot (Some v)) ≡ Asked (rha_frame p.format inc (cycle_of p slot) i v)
     now = rw (starts, same_identity_self (rha_of (cycle_of p slot) i)) refl
 
 -- ---- what a notice brings

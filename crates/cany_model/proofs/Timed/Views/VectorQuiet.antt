@@ -28,10 +28,11 @@ use Rattle.cany_model.specs.Rules.Turn.{scenario_for, turn_effects}
 use Rattle.cany_model.specs.Rules.Vectors.{everybody, is_vector_got, met, met_with, rha_of, vector_in}
 use Rattle.cany_model.proofs.Among.{Among, Among-drop, Among-from_Contains, Among-from_map, Among-weaker, Among-which, Among-with, Each-of, Each-weaker, any-from_Among, count-grows, count-no, count-yes}
 use Rattle.cany_model.proofs.Bus.Carried.{Carries}
-use Rattle.cany_model.proofs.Bus.Counting.{Accepts, success_is_clean, verdict_cases, verdict_not_silent}
+use Rattle.cany_model.proofs.Promises.CleanSlots.{Accepts, success_is_clean, verdict_cases, verdict_not_silent}
 use Rattle.cany_model.proofs.Bus.Identities.{same_class_self, same_identity-true}
 use Rattle.cany_model.proofs.Bus.Notes.{given-Got, given-Sent}
-use Rattle.cany_model.proofs.Bus.Seen.{Among-seen, Numbered, carries_frame, hidden_why, seen_plain}
+use Rattle.cany_model.proofs.Bus.Seen.{Among-seen, Numbered, hidden_why, seen_plain}
+use Rattle.cany_model.proofs.Rules.NoEarlyVectors.{carries_frame}
 use Rattle.cany_model.proofs.Promises.Diffusion.{Heard}
 use Rattle.cany_model.proofs.Promises.KeptVectors.{vector_at}
 use Rattle.cany_model.proofs.Rules.KnowledgeNodes.{IsVectorOfBus}
@@ -43,7 +44,7 @@ use Rattle.cany_model.proofs.Timed.Views.VectorSets.{just_this, meet_left, meet_
 use Rattle.cany_model.proofs.Timed.Views.VectorSteps.{vector_turn}
 use Rattle.cany_model.proofs.Timed.Views.VectorTurns.{turn_exchanges}
 use Rattle.cany_model.proofs.Timed.Views.VectorLastEffect.{IsCycle, brings}
-use Rattle.cany_model.proofs.Timed.Common.LastEffect.{AsksFor, Word, Silence, Asked, Withdrawn, by_word, held, held_after, word, word_asks}
+use Rattle.cany_model.proofs.Timed.Common.LastEffect.{AsksFor, LastEffect, NoEffect, Asked, Withdrawn, by_last_effect, held, held_after, last_effect, last_effect_asks}
 
 -- ---- nothing waits, and nothing would be asked for
 
@@ -64,19 +65,19 @@ none_held k r (f ∷ w) h =
 pub held_unasked : (k r : ℕ) (effects : List Effect) (w : List FrameParts) → list_any asks_for_first_class effects ≡ false → held (rha_of k r) w ≡ []
     → held (rha_of k r) (waiting_after effects w) ≡ []
 unfolding same_class
-held_unasked k r effects w plain none = held_after (rha_of k r) effects w ∙ by_last (word (rha_of k r) effects) refl
+held_unasked k r effects w plain none = held_after (rha_of k r) effects w ∙ by_last (last_effect (rha_of k r) effects) refl
   where
     asks : (f : FrameParts) (e : Effect) → AsksFor (rha_of k r) f e → asks_for_first_class e ≡ true
     asks f e a =
         let c : class.Rha ≡ f.class = ap (λ (x : Identity). x.class) a.1 in
         ap asks_for_first_class a.0 ∙ sym (ap (λ d. same_class d class.Accept || same_class d class.Rha) c)
 
-    by_last : (last : Word) → word (rha_of k r) effects ≡ last → by_word last (held (rha_of k r) w) ≡ []
-    by_last Silence e = none
+    by_last : (last : LastEffect) → last_effect (rha_of k r) effects ≡ last → by_last_effect last (held (rha_of k r) w) ≡ []
+    by_last NoEffect e = none
     by_last Withdrawn e = refl
     by_last (Asked f) e =
         absurd (both_ways (list_any asks_for_first_class effects) plain (any-from_Among asks_for_first_class effects
-        (Among-weaker (AsksFor (rha_of k r) f) (λ e. asks_for_first_class e ≡ true) (asks f) effects (word_asks (rha_of k r) f effects e))))
+        (Among-weaker (AsksFor (rha_of k r) f) (λ e. asks_for_first_class e ≡ true) (asks f) effects (last_effect_asks (rha_of k r) f effects e))))
 
 -- ---- the unread notices, as if they were read
 

@@ -36,8 +36,8 @@ use Rattle.cany_model.proofs.Timed.Views.VectorHeld.{WaitedWith, held_none, held
 use Rattle.cany_model.proofs.Timed.Views.VectorKept.{Answered, Covers, HasRead, HasVector, IsOpen, IsSentOf, NodeVector, SentCovers, Untouched, VectorKept, WaitCovers, own_frame}
 use Rattle.cany_model.proofs.Timed.Views.VectorSets.{just_this, meet_left, same_bits, vector_again}
 use Rattle.cany_model.proofs.Timed.Views.VectorTurns.{starts_with, turn_ends, turn_exchanges, turn_other, turn_outside, turn_starts}
-use Rattle.cany_model.proofs.Timed.Views.VectorLastEffect.{IsCycle, brings, brought_word, met_word, start_word}
-use Rattle.cany_model.proofs.Timed.Common.LastEffect.{by_word, held, held_after, word}
+use Rattle.cany_model.proofs.Timed.Views.VectorLastEffect.{IsCycle, brings, brought_last_effect, met_last_effect, start_last_effect}
+use Rattle.cany_model.proofs.Timed.Common.LastEffect.{by_last_effect, held, held_after, last_effect}
 use Rattle.cany_model.proofs.Timed.Views.ReadableNodes.{IsReadableNodes, each_readable}
 
 -- ---- a slot
@@ -222,7 +222,7 @@ module _ (scenario : ScenarioParts) (fits : scenario.params.nodes ≤ (layout sc
 
   met_turn : (e : NoticeKind) (past : List NoticeKind) → HasRead i trace (e ∷ past) → (w after : List FrameParts) (old : Option Nodes) (v : Nodes)
       → AllBelow p.nodes v → IsLeft w v → ((u : Nodes) → old ≡ Some u → Answered scenario k i trace past w u)
-      → held x after ≡ by_word (met_word p scenario.inc k i (e ∷ past) old v) (held x w) → HasVector scenario k i trace (e ∷ past) after v
+      → held x after ≡ by_last_effect (met_last_effect p scenario.inc k i (e ∷ past) old v) (held x w) → HasVector scenario k i trace (e ∷ past) after v
   unfolding is_new
   met_turn e past read w after old v below left answers now = by_covered (is_covered p k i v (e ∷ past)) refl
     where
@@ -258,7 +258,7 @@ module _ (scenario : ScenarioParts) (fits : scenario.params.nodes ≤ (layout sc
 
   exchange_turn : (e : NoticeKind) (past : List NoticeKind) → HasRead i trace (e ∷ past) → (w after : List FrameParts) (old got : Option Nodes)
       → IsOpen scenario k i trace past w old → IsVectorOfBus p (met p old got)
-      → held x after ≡ by_word (brought_word p scenario.inc k i (e ∷ past) old got) (held x w)
+      → held x after ≡ by_last_effect (brought_last_effect p scenario.inc k i (e ∷ past) old got) (held x w)
       → IsOpen scenario k i trace (e ∷ past) after (met p old got)
   unfolding met
   exchange_turn e past read w after None None h below now = (now ∙ h.0, h.1)
@@ -274,7 +274,7 @@ module _ (scenario : ScenarioParts) (fits : scenario.params.nodes ≤ (layout sc
       met_turn e past read w after (Some v) (met_with p (Some v) got) below (left_of past w (Some v) got h) (open_answer past w (Some v) h) now
 
   start_turn : (e : NoticeKind) (past : List NoticeKind) (w after : List FrameParts) (start : Option Nodes) → Untouched i x trace w
-      → IsVectorOfBus p start → held x after ≡ by_word (start_word p scenario.inc k i start) (held x w)
+      → IsVectorOfBus p start → held x after ≡ by_last_effect (start_last_effect p scenario.inc k i start) (held x w)
       → IsOpen scenario k i trace (e ∷ past) after start
   start_turn e past w after None h below now = (now ∙ h.0, h.1)
   start_turn e past w after (Some v) h below now = record {
@@ -293,40 +293,40 @@ module _ (scenario : ScenarioParts) (fits : scenario.params.nodes ≤ (layout sc
       → VectorKept scenario k i trace past w → VectorKept scenario k i trace (e ∷ past) (waiting_after (turn_effects scenario i (e ∷ past)) w)
   vector_turn c e past read below w h =
       let after : List FrameParts = waiting_after (turn_effects scenario i (e ∷ past)) w in
-      let now : held x after ≡ by_word (word x (turn_effects scenario i (e ∷ past))) (held x w) =
+      let now : held x after ≡ by_last_effect (last_effect x (turn_effects scenario i (e ∷ past))) (held x w) =
       held_after x (turn_effects scenario i (e ∷ past)) w in
       record {
         other = λ r differs. (
           held_after (rha_of k r) (turn_effects scenario i (e ∷ past)) w
-              ∙ ap (λ z. by_word z (held (rha_of k r) w))
+              ∙ ap (λ z. by_last_effect z (held (rha_of k r) w))
               (turn_other scenario i e past k r (λ q. differs (ap (λ (y : Identity). y.node) q))) ∙ (h.other r differs).0,
           (h.other r differs).1,
         );
         early = λ n.
             let before = h.early (omega (arith, n)) in
-            (now ∙ ap (λ z. by_word z (held x w)) (turn_outside scenario k i c e past (inl (omega (arith, n)))) ∙ before.0, before.1);
+            (now ∙ ap (λ z. by_last_effect z (held x w)) (turn_outside scenario k i c e past (inl (omega (arith, n)))) ∙ before.0, before.1);
         during = λ from to. elim (cases_eq (length past) (k * p.cycle)) [
           | inl at ↦
               let starts = turn_starts scenario k i c e past at in
               subst (IsOpen scenario k i trace (e ∷ past) after) (sym starts.vector)
               (start_turn e past w after (starts_with scenario i e past) (h.early (omega (arith, at))) (subst (IsVectorOfBus p) starts.vector below)
-              (now ∙ ap (λ z. by_word z (held x w)) starts.word))
+              (now ∙ ap (λ z. by_last_effect z (held x w)) starts.last_effect))
           | inr later ↦
               let from' : k * p.cycle < length past = omega (arith, from, later) in
               let ex = turn_exchanges scenario k i c e past from' (omega (arith, to)) in
               subst (IsOpen scenario k i trace (e ∷ past) after) (sym ex.vector)
               (exchange_turn e past read w after (vector_at scenario i past) (brings p.format k e) (h.during from' (omega (arith, to)))
-              (subst (IsVectorOfBus p) ex.vector below) (now ∙ ap (λ z. by_word z (held x w)) ex.word))
+              (subst (IsVectorOfBus p) ex.vector below) (now ∙ ap (λ z. by_last_effect z (held x w)) ex.last_effect))
         ];
         late = λ n. elim (cases_eq (length past) (k * p.cycle + p.bound)) [
-          | inl at ↦ elim (turn_ends scenario k i c e past at).word [
-            | inl gone ↦ now ∙ ap (λ z. by_word z (held x w)) gone
+          | inl at ↦ elim (turn_ends scenario k i c e past at).last_effect [
+            | inl gone ↦ now ∙ ap (λ z. by_last_effect z (held x w)) gone
             | inr none ↦
-                now ∙ ap (λ z. by_word z (held x w)) none.0
+                now ∙ ap (λ z. by_last_effect z (held x w)) none.0
                 ∙ open_none past w (vector_at scenario i past) none.1 (h.during (omega (arith, at, c.exchanged)) (omega (arith, at)))
           ]
           | inr later ↦
-              now ∙ ap (λ z. by_word z (held x w)) (turn_outside scenario k i c e past (inr (omega (arith, n, later))))
+              now ∙ ap (λ z. by_last_effect z (held x w)) (turn_outside scenario k i c e past (inr (omega (arith, n, later))))
               ∙ h.late (omega (arith, n, later))
         ];
       }

@@ -49,9 +49,9 @@ use Rattle.cany_model.proofs.Bus.Notes.{given-Got, given-Sent, given_idle}
 use Rattle.cany_model.proofs.Runs.Runs.{IsOrderly, orderly}
 use Rattle.cany_model.proofs.Bus.Seen.{length-seen, trace_for-is}
 use Rattle.cany_model.proofs.Bus.States.{no_note, note_at}
-use Rattle.cany_model.proofs.Runs.Waits.{AsksOnly}
+use Rattle.cany_model.proofs.Rules.Waits.{AsksOnly}
 use Rattle.cany_model.proofs.Rules.BacklogFacts.{backlog_is_lawful}
-use Rattle.cany_model.proofs.Rules.Begun.{begun_first}
+use Rattle.cany_model.proofs.Rules.IdleBeforeTakingPart.{begun_first}
 use Rattle.cany_model.proofs.Rules.CycleFacts.{start_slot}
 use Rattle.cany_model.proofs.Rules.EdcanFacts.{edcan_is_lawful}
 use Rattle.cany_model.proofs.Rules.IncarnationFacts.{effects_for-is}

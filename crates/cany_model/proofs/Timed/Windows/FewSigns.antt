@@ -24,7 +24,6 @@ use Rattle.cany_model.specs.Promises.Hypothesis.{IsWithin, is_partial_slot_of, i
 use Rattle.cany_model.specs.Promises.Windows.{HasFewAccepts, HasFewLifeSigns, HasFewVectors, is_clean_of}
 use Rattle.cany_model.specs.Rules.Effect.{waiting_after}
 use Rattle.cany_model.specs.Rules.Life.{is_own_sign, life_signs_sent}
-use Rattle.cany_model.specs.Rules.KnowledgeOf.{knowledge_of}
 use Rattle.cany_model.specs.Rules.Turn.{scenario_for, turn_effects}
 use Rattle.cany_model.proofs.Among.{Among-from_Contains, Among-weaker, count-from_Among, count-grows}
 use Rattle.cany_model.proofs.Bus.Carried.{carried_frame, is_sent-from}
@@ -34,8 +33,7 @@ use Rattle.cany_model.proofs.Bus.Restarts.{after_restarts-trace, restarts_or_sta
 use Rattle.cany_model.proofs.Runs.Runs.{IsOrderly, MaySlot, opening_within, orderly, slot_done, turn_done}
 use Rattle.cany_model.proofs.Bus.Seen.{length-seen}
 use Rattle.cany_model.proofs.Bus.States.{no_note, node_at-opening, note_at, runs_within}
-use Rattle.cany_model.proofs.Runs.Steps.{MayTurn, after_slot-present, after_slot-trace, after_slot-unread, after_turn-node, after_turn-present, after_turn-trace, running_before_slot, each_turned}
-use Rattle.cany_model.proofs.Runs.Waits.{Each-kept}
+use Rattle.cany_model.proofs.Runs.Steps.{MayTurn, after_slot-present, after_slot-trace, after_slot-unread, after_turn-node, after_turn-present, after_turn-trace, running_before_slot, each_turned, Each-kept}
 use Rattle.cany_model.proofs.Promises.Diffusion.{Lived, Turned, past_of}
 use Rattle.cany_model.proofs.Promises.EachNode.{EachRunning, IsNodes, each_running, slot_lived, turn_turned}
 use Rattle.cany_model.proofs.Promises.FewLifeSigns.{last_life}

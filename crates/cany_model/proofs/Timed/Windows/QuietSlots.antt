@@ -34,10 +34,10 @@ use Rattle.cany_model.proofs.Timed.Windows.TopFrames.{few_top_slots, is_top_slot
 quiet_state : (scenario : ScenarioParts) (s : RunState) → IsOrderly scenario.params.nodes s → MaySlot scenario s
     → ((age : ℕ) → is_silent_slot (note_at s.trace age) ≡ false) → is_top_slot (slot_note_of (script scenario.rules) s) ≡ false
     → ((age : ℕ) → age < scenario.params.lag → may_make_ask scenario.params (note_at s.trace age) ≡ false) → IsQuiet scenario s
-quiet_state scenario s orderly may plain top calm = record {
+quiet_state scenario s orderly may plain top no_ask = record {
   waits = none_waited (script scenario.rules) s top;
   asks = λ i running age unread. false_from_ne_true (asks_at scenario s i age) (λ asks.
-      both_ways (may_make_ask scenario.params (note_at s.trace age)) (calm age (omega (arith, unread, may.lag i running)))
+      both_ways (may_make_ask scenario.params (note_at s.trace age)) (no_ask age (omega (arith, unread, may.lag i running)))
       (asking_slot scenario s orderly i (node_at s.nodes i).present age (plain age) asks));
 }
 
@@ -49,7 +49,7 @@ record FreeAge (p : Parameters) (trace : List SlotNote) (newest : ℕ) : Type 0 
   from : newest ≤ age
   to : age < newest + p.bound
   top : is_top_slot (note_at trace age) ≡ false
-  calm : (k : ℕ) → k < p.lag → may_make_ask p (note_at trace (age + suc k)) ≡ false
+  no_ask : (k : ℕ) → k < p.lag → may_make_ask p (note_at trace (age + suc k)) ≡ false
 
 -- the slots of a shorter window, by their ages
 few_ages : (p : Parameters) (test : SlotNote → Bool) (most : ℕ) (trace : List SlotNote) → test no_note ≡ false → HasFew test most p trace
@@ -65,7 +65,7 @@ free_age p trace formulas few_top few_ask newest =
     (top_frames p.nodes + p.errors) (most_asking p) (omega (arith, formulas.bound))
     (few_ages p is_top_slot (top_frames p.nodes + p.errors) trace refl few_top)
     (few_ages p (may_make_ask p) (most_asking p) trace (none_makes_ask p) few_ask) newest in
-    record { age = found.0; from = found.1; to = found.2; top = found.3; calm = found.4 }
+    record { age = found.0; from = found.1; to = found.2; top = found.3; no_ask = found.4 }
 
 -- ---- every run
 
@@ -93,7 +93,7 @@ was_quiet scenario journal within newest free t place =
       quiet = quiet_state scenario s (subst (IsOrderly p.nodes) way.state (orderly scenario way.before)) (slot_done scenario s way.done)
           (λ age. ap is_silent_slot (sym (note (suc age))) ∙ never_silent p all within (free.age + suc age))
           (ap is_top_slot (sym (note 0)) ∙ ap (λ age. is_top_slot (note_at all age)) (add-zero free.age) ∙ free.top)
-          (λ age below. ap (may_make_ask p) (sym (note (suc age))) ∙ free.calm age below);
+          (λ age below. ap (may_make_ask p) (sym (note (suc age))) ∙ free.no_ask age below);
     }
 
 -- of any so many consecutive slots as the bound has, one was run in a quiet state

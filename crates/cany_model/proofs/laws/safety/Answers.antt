@@ -1,4 +1,4 @@
-use Rattle.cany_model.proofs.Promises.Safety.{safe}
+use Rattle.cany_model.proofs.Timed.Safety.{safe}
 use Rattle.cany_model.proofs.laws.safety.Goals as goal
 
 pub returns : goal.returns

@@ -1,7 +1,7 @@
 use Rattle.std.proofs.Common.{◌+◌, ap, arith, subst, sym, ◌∙◌}
 use Rattle.cany_node.specs.contracts.node.Node.{the_view}
 use Rattle.cany_node.specs.Node.{IsWaiting, NodeParts}
-use Rattle.cany_node.proofs.Beginning.{begins}
+use Rattle.cany_node.proofs.BeforeFirstTurn.{begins}
 use Rattle.cany_node.proofs.node.Node.begin.Goals as goal
 
 pub returns-clause-stands : goal.returns-clause-stands

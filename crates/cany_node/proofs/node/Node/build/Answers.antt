@@ -2,7 +2,7 @@ use Rattle.std.proofs.Common.{length, ap, ◌∙◌, sym, subst, arith}
 use Rattle.cany_base.specs.Bounded.{Bounded}
 use Rattle.cany_base.specs.declared.log_entry.LogEntry.{LogEntry}
 use Rattle.cany_node.specs.Node.{IsWaiting, NodeParts}
-use Rattle.cany_node.proofs.Beginning.{opens}
+use Rattle.cany_node.proofs.BeforeFirstTurn.{opens}
 use Rattle.cany_node.proofs.MessageLists.{planned_count}
 use Rattle.cany_node.proofs.node.Node.build.Goals as goal
 

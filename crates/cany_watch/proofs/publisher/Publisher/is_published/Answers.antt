@@ -2,7 +2,7 @@ use Rattle.std.proofs.Common.{◌≡◌, ◌++◌, ◌∙◌, ◌≤◌, ap, ari
 use Rattle.std.specs.Prelude.{IsSomeAnd}
 use Rattle.std.proofs.lemmas.Bool.{eqb-true}
 use Rattle.cany_watch.specs.Publishers.{IsWriterOf, PublisherParts, held_list, shown_of}
-use Rattle.cany_watch.proofs.Beginnings.{prefix_whole}
+use Rattle.cany_watch.proofs.Prefixes.{prefix_whole}
 use Rattle.cany_watch.proofs.Waiting.{published_begins}
 use Rattle.cany_watch.proofs.publisher.Publisher.is_published.Goals as goal
 

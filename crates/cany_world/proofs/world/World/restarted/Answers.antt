@@ -3,7 +3,7 @@ use Rattle.std.proofs.lemmas.Bool.{eqb-true}
 use Rattle.std.proofs.lemmas.List.{nil_from_length}
 use Rattle.cany_model.specs.Bus.Restart.{restarted_in}
 use Rattle.cany_world.specs.World.{WorldParts, state_of}
-use Rattle.cany_world.proofs.BeganFacts.{none_restarted}
+use Rattle.cany_world.proofs.NoRestartEntry.{none_restarted}
 use Rattle.cany_world.proofs.world.World.restarted.Goals as goal
 
 pub returns-then-is_empty : goal.returns-then-is_empty

@@ -8,7 +8,7 @@ use Rattle.cany_base.specs.Nodes.{Nodes}
 use Rattle.cany_base.specs.Params.{Parameters}
 use Rattle.cany_base.specs.Scenario.{ScenarioParts}
 use Rattle.cany_model.specs.Bus.Frames.{identity_of}
-use Rattle.cany_model.specs.Rules.Life.{failure_effects, failures_at, fda_copy_effects, is_own_sign, life_effects, sign_effects, life_signs_sent}
+use Rattle.cany_model.specs.Rules.Life.{failure_effects, failures_at, fda_copy_effects, is_own_sign, life_effects, failure_sign_effects, life_signs_sent}
 use Rattle.cany_model.specs.Rules.Membership.{ask_effects, exchange_effects, install_effects}
 use Rattle.cany_model.specs.Rules.Notices.{error_as_idle}
 use Rattle.cany_model.specs.Rules.KnowledgeOf.{after_notice, ended_in, start_in, knowledge_of}
@@ -37,12 +37,12 @@ plain_knowledge scenario i (e ∷ past) =
 
 -- ---- failure signs
 
-plain_sign : (omit slot : ℕ) (past : List NoticeKind) (sign : FailureSign) → sign_effects omit slot (plain past) sign ≡ sign_effects omit slot past sign
-unfolding sign_effects
+plain_sign : (omit slot : ℕ) (past : List NoticeKind) (sign : FailureSign) → failure_sign_effects omit slot (plain past) sign ≡ failure_sign_effects omit slot past sign
+unfolding failure_sign_effects
 plain_sign omit slot past sign = rw (plain-copies (fda_of sign) past) refl
 
 plain_signs : (omit slot : ℕ) (past : List NoticeKind) (signs : List FailureSign)
-    → flat_map (sign_effects omit slot (plain past)) signs ≡ flat_map (sign_effects omit slot past) signs
+    → flat_map (failure_sign_effects omit slot (plain past)) signs ≡ flat_map (failure_sign_effects omit slot past) signs
 plain_signs omit slot past [] = refl
 plain_signs omit slot past (sign ∷ signs) = rw (plain_sign omit slot past sign, plain_signs omit slot past signs) refl
 

@@ -16,27 +16,27 @@ none_is_named (x ∷ frames) = none_is_named frames
 
 awaits_none : (stopped : Option ℕ) (waiting : List FrameParts) (frames : List Identity) → (stopped ≡ None → waiting ≡ [])
     → (is_none stopped && list_any (λ x. waits x waiting) frames) ≡ false
-awaits_none None waiting frames quiet = ap (λ w. list_any (λ x. waits x w) frames) (quiet refl) ∙ none_is_named frames
-awaits_none (Some stop) waiting frames quiet = refl
+awaits_none None waiting frames nothing = ap (λ w. list_any (λ x. waits x w) frames) (nothing refl) ∙ none_is_named frames
+awaits_none (Some stop) waiting frames nothing = refl
 
 has_read_all : (stopped : Option ℕ) (unread : List Notice) → (stopped ≡ None → unread ≡ [])
     → (not (is_none stopped) || length unread == 0) ≡ true
-has_read_all None unread quiet = ap (λ (u : List Notice). length u == 0) (quiet refl)
-has_read_all (Some stop) unread quiet = refl
+has_read_all None unread nothing = ap (λ (u : List Notice). length u == 0) (nothing refl)
+has_read_all (Some stop) unread nothing = refl
 
 nobody_awaits : (frames : List Identity) (controllers : List ControllerState) → HaveNothingToDo controllers → list_any (awaits frames) controllers ≡ false
-nobody_awaits frames [] quiet = refl
-nobody_awaits frames (c ∷ controllers) quiet =
-    let here : awaits frames c ≡ false = awaits_none c.stopped c.waiting frames (λ running. (quiet 0 c refl running).waiting) in
-    ap (λ b. b || list_any (awaits frames) controllers) here ∙ nobody_awaits frames controllers (λ i x at. quiet (suc i) x at)
+nobody_awaits frames [] nothing = refl
+nobody_awaits frames (c ∷ controllers) nothing =
+    let here : awaits frames c ≡ false = awaits_none c.stopped c.waiting frames (λ running. (nothing 0 c refl running).waiting) in
+    ap (λ b. b || list_any (awaits frames) controllers) here ∙ nobody_awaits frames controllers (λ i x at. nothing (suc i) x at)
 
 all_have_read : (controllers : List ControllerState) → HaveNothingToDo controllers → list_all has_read controllers ≡ true
-all_have_read [] quiet = refl
-all_have_read (c ∷ controllers) quiet =
-    let here : has_read c ≡ true = has_read_all c.stopped c.unread (λ running. (quiet 0 c refl running).unread) in
-    ap (λ b. b && list_all has_read controllers) here ∙ all_have_read controllers (λ i x at. quiet (suc i) x at)
+all_have_read [] nothing = refl
+all_have_read (c ∷ controllers) nothing =
+    let here : has_read c ≡ true = has_read_all c.stopped c.unread (λ running. (nothing 0 c refl running).unread) in
+    ap (λ b. b && list_all has_read controllers) here ∙ all_have_read controllers (λ i x at. nothing (suc i) x at)
 
-pub quiet_where_none_has_anything_to_do : (frames : List Identity) (controllers : List ControllerState) → HaveNothingToDo controllers
+pub nobody_waits_where_nothing_to_do : (frames : List Identity) (controllers : List ControllerState) → HaveNothingToDo controllers
     → (not (list_any (awaits frames) controllers) && list_all has_read controllers) ≡ true
-quiet_where_none_has_anything_to_do frames controllers quiet =
-    ap (λ b. not b && list_all has_read controllers) (nobody_awaits frames controllers quiet) ∙ all_have_read controllers quiet
+nobody_waits_where_nothing_to_do frames controllers nothing =
+    ap (λ b. not b && list_all has_read controllers) (nobody_awaits frames controllers nothing) ∙ all_have_read controllers nothing

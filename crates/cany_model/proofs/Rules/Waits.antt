@@ -2,16 +2,12 @@
 use Rattle.std.proofs.Common.{◌≡◌, ◌⊎◌, inl, inr, true, false, not, ◌||◌, List, [], ◌∷◌, sym, ◌∙◌}
 use Rattle.std.specs.List.{AllByRecursion}
 use Rattle.std.proofs.lemmas.Bool.{or_cases, or_left, or_right, false≢true, cond_both, not-false}
-use Rattle.cany_base.specs.declared.notice.NoticeKind.{NoticeKind}
-use Rattle.cany_base.specs.declared.notice.NoticeKind.TheVariants.{Idle, Got, Sent, Bad}
 use Rattle.cany_base.specs.Frame.{FrameParts}
 use Rattle.cany_model.specs.Rules.Effect.{Effect, Ask, Withdraw, Enter, waiting_after}
 use Rattle.cany_model.specs.Bus.Frames.{Identity, identity_of, is_of, is_before, same_frame}
 use Rattle.cany_model.specs.Bus.Waiting.{waits, waits_with, without, put_in_order, with_frame}
 use Rattle.cany_model.proofs.Among.{Among}
-use Rattle.cany_model.proofs.Runs.Steps.{kept_at}
-use Rattle.cany_model.proofs.Bus.Identities.{same_identity-from, same_frame-identity}
-use Rattle.cany_model.proofs.Bus.Identities.{same_identity-true}
+use Rattle.cany_model.proofs.Bus.Identities.{same_frame-identity, same_identity-from, same_identity-true}
 
 -- the effects that put a frame of the identity among the waiting ones, and those that take it away
 abbrev pub Asks : Identity → Effect → Type 0
@@ -152,13 +148,6 @@ Each-after P [] w a h = h
 Each-after P (Ask f ∷ effects) w a h = Each-after P effects (with_frame f w) a.1 (Each-put P f (without (identity_of f) w) a.0 (Each-without P (identity_of f) w h))
 Each-after P (Withdraw y ∷ effects) w a h = Each-after P effects (without y w) a.1 (Each-without P y w h)
 Each-after P (Enter entry ∷ effects) w a h = Each-after P effects w a.1 h
-
--- and by a slot
-pub Each-kept : (P : FrameParts → Type 0) (notice : NoticeKind) (w : List FrameParts) → AllByRecursion P w → AllByRecursion P (kept_at notice w)
-Each-kept P Idle w h = h
-Each-kept P (Got f) w h = h
-Each-kept P (Sent f) w h = Each-without P (identity_of f) w h
-Each-kept P Bad w h = h
 
 -- a controller that waits with a frame waits with its identity
 pub waits-from_with : (f : FrameParts) (w : List FrameParts) → waits_with f w ≡ true → waits (identity_of f) w ≡ true

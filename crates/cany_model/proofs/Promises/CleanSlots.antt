@@ -1,21 +1,22 @@
 -- More copies of a frame than there may be Partial slots include a Clean one.
-use Rattle.std.proofs.Common.{◌≡◌, ℕ, ◌<◌, ◌≤◌, ◌⊎◌, ◌&&◌, inl, inr, true, false, List, [], ◌∷◌, map, drop, refl, ap, sym, ◌∙◌, arith}
+use Rattle.std.proofs.Common.{◌≡◌, ℕ, ◌<◌, ◌≤◌, ◌⊎◌, ◌==◌, ◌&&◌, inl, inr, true, false, List, [], ◌∷◌, map, drop, refl, ap, sym, ◌∙◌, arith}
 use Rattle.std.specs.List.{AllByRecursion}
-use Rattle.std.proofs.lemmas.Bool.{false≢true, and_from, cases_Bool}
+use Rattle.std.proofs.lemmas.Bool.{and_from, cases_Bool, cond_both, eq-eqb, false≢true}
 use Rattle.std.proofs.lemmas.List.Elements.{recursion_from_All}
+use Rattle.cany_base.specs.declared.class.Class.TheVariants.{Rha}
 use Rattle.cany_base.specs.declared.rule.Verdict.{Verdict}
 use Rattle.cany_base.specs.declared.rule.Verdict.TheVariants.{Clean, Lost, Partial, Silent}
 use Rattle.cany_base.specs.declared.slot_note.SlotNote.{SlotNote}
 use Rattle.cany_base.specs.declared.notice.NoticeKind.TheVariants.{Got}
 use Rattle.cany_base.specs.Frame.{FrameParts}
 use Rattle.cany_base.specs.Params.{Parameters}
-use Rattle.cany_model.specs.Bus.Frames.{Identity, identity_of}
+use Rattle.cany_model.specs.Bus.Frames.{Identity, identity_of, same_class, same_identity}
 use Rattle.cany_model.specs.Bus.History.{given, is_got, copies}
 use Rattle.cany_model.specs.Promises.Hypothesis.{IsWithin, is_partial, is_silent, is_silent_slot, is_partial_slot_of, partial_slots, count_together}
 use Rattle.cany_model.specs.Bus.Slot.{carried, lets_accept, is_success}
 use Rattle.cany_model.proofs.Among.{Among, Among-weaker, Among-with, Each-drop, count-yes, count-no, count-grows, count-drop, Among-drop}
 use Rattle.cany_model.proofs.Bus.Carried.{Carries, Succeeds, CarriesClean, Carries-from_got, is_got-true}
-use Rattle.cany_model.proofs.Bus.Identities.{count_together-itself}
+use Rattle.cany_model.proofs.Bus.Identities.{same_identity_self}
 
 -- the verdict of the slot let the node accept what it got there
 abbrev pub Accepts : ℕ → SlotNote → Type 0
@@ -33,6 +34,13 @@ verdict_not_silent x note c h =
     let was : carried (λ f. true) note ≡ true = rw c.frame refl in
     let and : (carried (λ f. true) note && is_silent note.verdict) ≡ is_silent note.verdict = rw was refl in
     sym and ∙ h
+
+-- the Partial slots of an identity count for it
+pub count_together-itself : (x : Identity) → count_together x x ≡ true
+unfolding count_together
+count_together-itself x =
+    cond_both (same_class x.class Rha) (same_class x.class Rha && x.number == x.number) (same_identity x x) (λ b. b ≡ true)
+    (λ rha. rw rha (eq-eqb x.number x.number refl)) (λ _. same_identity_self x)
 
 partial_counts : (x : Identity) (note : SlotNote) → Carries x note → is_partial note.verdict ≡ true → is_partial_slot_of x note ≡ true
 partial_counts x note c h =

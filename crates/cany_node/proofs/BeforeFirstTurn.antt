@@ -13,7 +13,7 @@ use Rattle.cany_model.specs.Rules.Effect.{entered}
 use Rattle.cany_model.specs.Rules.Log.{log_from}
 use Rattle.cany_model.specs.Rules.Turn.{scenario_for}
 use Rattle.cany_model.proofs.Promises.OwnSlotsAlone.{from_later, members_later}
-use Rattle.cany_model.proofs.Rules.Begun.{AreIdle, IsBegun, begun_before}
+use Rattle.cany_model.proofs.Rules.IdleBeforeTakingPart.{AreIdle, IsBegun, begun_before}
 use Rattle.cany_model.proofs.Rules.MutedFacts.{turn_muted}
 use Rattle.cany_model.proofs.Rules.SendFacts.{sendable_late}
 use Rattle.cany_edcan.specs.Edcan.{IsEdcanOf}
@@ -28,7 +28,7 @@ use Rattle.cany_node.specs.Membership.{MembershipParts}
 use Rattle.cany_node.proofs.AgendaFacts.{rising-earlier}
 use Rattle.cany_node.proofs.AskFacts.{passed_asks, whole_asks}
 use Rattle.cany_node.proofs.SendFacts.{none_for}
-use Rattle.cany_node.proofs.MembershipBeginning.{IsOutside, site_begins, site_opens}
+use Rattle.cany_node.proofs.MembershipBeforeFirstTurn.{IsOutside, site_begins, site_opens}
 
 whole_agenda : (scenario : ScenarioParts) (i : ℕ) (a : AgendaParts) → scenario.from ≡ 0 → IsPlanOf scenario i a → IsAgendaOf scenario i 0 a
 whole_agenda scenario i a first plan = record {

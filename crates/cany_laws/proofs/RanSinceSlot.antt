@@ -13,7 +13,7 @@ use Rattle.cany_model.proofs.Bus.Restarts.{restarts_or_stays}
 use Rattle.cany_model.proofs.Bus.Seen.{drop_seen, history-is}
 use Rattle.cany_model.proofs.Runs.Runs.{orderly}
 use Rattle.cany_model.proofs.Runs.Steps.{MayTurn, after_slot-present, after_slot-trace, after_turn-present, after_turn-runs, after_turn-trace, running_before_slot}
-use Rattle.cany_laws.proofs.Fronts.{drop-map, IsKeptOn, kept_on, one_longer}
+use Rattle.cany_laws.proofs.KeptAlongJournal.{drop-map, IsKeptOn, kept_on, one_longer}
 use Rattle.cany_model.proofs.Timed.Views.StartViews.{front_split}
 
 -- node i began again after slot t, or is in the incarnation that it was in then, and ran then if it runs
