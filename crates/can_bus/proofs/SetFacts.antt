@@ -1,6 +1,5 @@
 -- A set that is filled by going over the nodes.
 use Rattle.std.proofs.Common.{◌≡◌, ◌≢◌, ℕ, ◌≤◌, ◌+◌, ◌==◌, ◌&&◌, ◌||◌, Bool, true, false, nat_lt, refl, ap, sym, ◌∙◌, arith, inl, inr}
-use Rattle.std.specs.Prelude.{Option, Some, None, IfNone, is_some}
 use Rattle.std.proofs.lemmas.Bool.{cases_lt, cases_eq, lt-ltb, le-ltb, eq-eqb, ne_eqb}
 use Rattle.cany_base.specs.Limits.{most_nodes}
 use Rattle.cany_base.specs.Nodes.{Nodes, has, nobody, those_where}
@@ -58,8 +57,3 @@ so_far_has set n test so past k = elim (cases_lt k n) [
   | inl below ↦ so k ∙ ap (λ b. b && test k) (lt-ltb k n below)
   | inr above ↦ so k ∙ ap (λ b. b && test k) (le-ltb k n above) ∙ sym (past k above)
 ]
-
--- a set of which there is no least node has none
-pub has_nobody : (set : Nodes) (least : Option ℕ) → is_some least ≡ false → IfNone least ((i : ℕ) → has set i ≡ false) → (i : ℕ) → has set i ≡ false
-has_nobody set None e none = none
-has_nobody set (Some node) e none = cc

@@ -137,7 +137,7 @@ pub(crate) fn stop_all(controllers: &mut [Controller], slot: Slot, stops: NodeSe
     ensures { controllers.new ≡ each (stopped_by slot stops) 0 controllers.old }
 {
     // In most slots nobody stops.
-    if stops.least().is_none() {
+    if stops.is_empty() {
         return;
     }
     for i in 0..controllers.len() {

@@ -9,7 +9,7 @@ ghost use Rattle.can_frame.specs.Identifier.{FitsFormat, FitsIdentifier};
 ghost use Rattle.can_controller.specs.Waiting.{IsAscending, IsPlaceOf, IsGapFor, HasRoomFor, identity_number};
 
 use crate::identity::same_identity;
-use can_frame::identifier;
+use can_frame::{identifier, without_incarnation};
 use cany_base::{Format, Frame, Memory};
 use cany_model::Share;
 use std::alloc::Global;
@@ -87,8 +87,7 @@ fn place_of(format: Format, frames: &[Frame], ident: u32) -> Option<usize>
     ensures found { IfSome result (λ place. IsPlaceOf (identifier_of format) ident place frames.now) }
     ensures absent { IfNone result (All (λ f. identifier_of format f ≢ ident) frames.now) }
 {
-    // The incarnation is in the low four bits.
-    match find(format, frames, ident - ident % 16) {
+    match find(format, frames, without_incarnation(ident)) {
         Ok(place) => {
             if identifier(format, &frames[place]) == ident {
                 Some(place)

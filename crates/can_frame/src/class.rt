@@ -24,11 +24,11 @@ macro_rules! by_class {
     (rows $column:ident $value:tt) => {
         by_class!($column $value:
             Accept = 0 remote none zero nothing,
-            Rha = 1 data vector told life,
-            Els = 2 remote none told life,
+            Rha = 1 data vector stamped life,
+            Els = 2 remote none stamped life,
             Fda = 3 remote none zero site,
-            Join = 4 remote none told site,
-            Leave = 5 remote none told site,
+            Join = 4 remote none stamped site,
+            Leave = 5 remote none stamped site,
             Confirm = 6 remote none zero nothing,
             Tot = 7 data any zero life,
             Rel = 8 data any zero nothing,
@@ -58,7 +58,7 @@ macro_rules! by_class {
     };
     (remote is remote) => { true };
     (data is remote) => { false };
-    (told is incarnation) => { true };
+    (stamped is incarnation) => { true };
     (zero is incarnation) => { false };
     (life is life) => { true };
     ($tells:ident is life) => { false };

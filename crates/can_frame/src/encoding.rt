@@ -1,4 +1,4 @@
-ghost use Rattle.std.specs.Prelude.{◌≡◌, ◌<◌, ◌^◌};
+ghost use Rattle.std.specs.Prelude.{◌≡◌, ◌-◌, ◌%◌, ◌<◌, ◌^◌};
 ghost use Rattle.cany_base.specs.Frame.{identifier_of, key_of};
 ghost use Rattle.can_frame.specs.Identifier.{FitsFormat};
 
@@ -23,6 +23,14 @@ pub fn identifier(format: Format, frame: &Frame) -> u32
     let fields = put_fields(format, frame.number, frame.node);
     let word = ClassField::put(fields, number_of_class(frame.class));
     IncarnationField::put(word, u32::from(frame.inc))
+}
+
+/// The identifier in which no incarnation is named.
+#[inline(always)]
+pub fn without_incarnation(ident: u32) -> u32
+    ensures { result ≡ ident - ident % 2 ^ 4 }
+{
+    ident - IncarnationField::take(ident)
 }
 
 /// The number by which frames arbitrate: the frame of the smaller key wins.

@@ -1,4 +1,4 @@
-ghost use Rattle.std.specs.Prelude.{◌≡◌, ◌+◌, ◌*◌, ◌^◌, ◌<◌};
+ghost use Rattle.std.specs.Prelude.{◌≡◌, ◌+◌, ◌*◌, ◌^◌, ◌<◌, ◌↔◌, true};
 ghost use Rattle.cany_base.specs.Layout.{layout};
 ghost use Rattle.can_frame.specs.Field.{field_of};
 
@@ -11,6 +11,7 @@ use cany_base::{Format, NodeId};
 macro_rules! by_format {
     (word of $number:expr, $node:expr, in $format:expr) => { by_format!(rows $format, put ($number, $node)) };
     (fields of $ident:expr, in $format:expr) => { by_format!(rows $format, take ($ident)) };
+    (fit of $number:expr, in $format:expr) => { by_format!(rows $format, fits ($number)) };
     (rows $format:expr, $body:ident $values:tt) => {
         match $format {
             Format::One => by_format!($body $values number 9 16, node 4 5),
@@ -26,6 +27,9 @@ macro_rules! by_format {
         let node = NodeId::new(Field::<$node_shift, $node_width>::take($ident) as u8).unwrap();
         (number, node)
     }};
+    (fits ($number:expr) number $number_shift:literal $number_width:literal, node $node_shift:literal $node_width:literal) => {
+        u32::from($number) < 1 << $number_width
+    };
 }
 
 /// The part of an identifier below its class: the number and the node, each in its field.
@@ -36,6 +40,13 @@ pub(crate) fn put_fields(format: Format, number: u16, node: NodeId) -> u32
     ensures below_class { result < 2 ^ 25 }
 {
     by_format!(word of number, node, in format)
+}
+
+/// Whether a number fits its field in an identifier.
+pub fn number_fits(format: Format, number: u16) -> bool
+    ensures { (result ≡ true) ↔ (number < 2 ^ (layout format).number_width) }
+{
+    by_format!(fit of number, in format)
 }
 
 /// The number and the node that stand in an identifier.

@@ -1,3 +1,4 @@
+pub mod EmptyFacts
 pub mod NodesFacts
 pub mod ParamsFacts
 pub mod PayloadFacts

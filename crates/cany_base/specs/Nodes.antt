@@ -23,6 +23,10 @@ those_where test = record { bits = bits_where test most_nodes }
 abbrev pub nobody : Nodes
 nobody = record { bits = 0 }
 
+-- whether the set has no node
+abbrev pub is_nobody : Nodes → Bool
+is_nobody nodes = nodes.bits == 0
+
 -- the nodes of both
 abbrev pub meet : Nodes → Nodes → Nodes
 meet a b = those_where (λ r. has a r && has b r)

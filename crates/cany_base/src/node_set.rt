@@ -1,6 +1,6 @@
 ghost use Rattle.std.specs.Prelude.{◌≡◌, ◌<◌, ◌≤◌, ◌↔◌, ◌==◌, ◌&&◌, ◌||◌, ℕ, not, nat_lt, false, IsTrue, IsSome, IfSome, IfNone};
 ghost use Rattle.cany_base.specs.Limits.{most_nodes};
-ghost use Rattle.cany_base.specs.Nodes.{has, meet, minus, nobody, node_count, plus, with_node, AllBelow};
+ghost use Rattle.cany_base.specs.Nodes.{has, is_nobody, meet, minus, nobody, node_count, plus, with_node, AllBelow};
 
 use crate::node::NodeId;
 use std::marker::Model;
@@ -113,6 +113,14 @@ impl NodeSet {
         }
     }
 
+    /// Whether the set has no node.
+    pub fn is_empty(self) -> bool
+        ensures nobody { result ≡ is_nobody self }
+        ensures counted { result ≡ (node_count self == 0) }
+    {
+        self.bits == 0
+    }
+
     /// How many nodes the set has.
     pub fn count(self) -> u32
         ensures count { result ≡ node_count self }
@@ -133,7 +141,7 @@ impl NodeSet {
         ensures has { IfSome result (λ node. IsTrue (has self node)) }
         ensures least { IfSome result (λ node. (i : ℕ) → IsTrue (has self i) → node ≤ i) }
     {
-        if self.bits == 0 {
+        if self.is_empty() {
             return None;
         }
         NodeId::new(self.bits.trailing_zeros() as u8)

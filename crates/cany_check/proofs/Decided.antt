@@ -1,5 +1,5 @@
 -- What the tests of an account decide of a run: that a node has delivered a message, that it knows a sign, and that a set is empty.
-use Rattle.std.proofs.Common.{◌≡◌, ℕ, ◌<◌, ◌==◌, ◌&&◌, Bool, true, false, nat_lt, List, [], ◌∷◌, refl, ap, sym, subst, ◌∙◌, inl, inr, Contains}
+use Rattle.std.proofs.Common.{◌≡◌, ℕ, ◌<◌, ◌==◌, ◌&&◌, true, false, nat_lt, List, [], ◌∷◌, refl, ap, sym, subst, ◌∙◌, inl, inr, Contains}
 use Rattle.std.specs.List.{list_any}
 use Rattle.std.proofs.lemmas.Bool.{and_from, and_parts, cases_Bool, eq-eqb, eqb-true, false≢true, lt-ltb}
 use Rattle.std.proofs.lemmas.Slice.Eq.{bytes_eq-Decides}
@@ -10,9 +10,10 @@ use Rattle.cany_base.specs.declared.message.MsgKey.{MsgKey}
 use Rattle.cany_base.specs.declared.message.Service.{Service}
 use Rattle.cany_base.specs.declared.message.Service.TheVariants as service
 use Rattle.cany_base.specs.Limits.{most_nodes}
-use Rattle.cany_base.specs.Nodes.{Nodes, has, nobody}
+use Rattle.cany_base.specs.Nodes.{has, is_nobody}
 use Rattle.cany_base.specs.Scenario.{ScenarioParts}
-use Rattle.cany_base.proofs.NodesFacts.{has-those_where, has_none, same_as_those_where}
+use Rattle.cany_base.proofs.NodesFacts.{has-those_where, has_none}
+use Rattle.cany_base.proofs.EmptyFacts.{is_nobody-from, is_nobody-true}
 use Rattle.cany_model.specs.Bus.Frames.{same_class}
 use Rattle.cany_model.specs.Bus.State.{RunState}
 use Rattle.cany_model.specs.Promises.Entries.{HasDelivered, HasLoggedFailure, is_delivery_of, tells_of}
@@ -21,8 +22,9 @@ use Rattle.cany_model.specs.Rules.Log.{log}
 use Rattle.cany_model.specs.Rules.Messages.{Message, is_service, message_key}
 use Rattle.cany_model.proofs.Among.{Among, Among-from_Contains, Among-from_any, Among-weaker, Among-which, any-from_Among}
 use Rattle.cany_check.specs.Account.{LogParts, message_record, sign_record}
-use Rattle.cany_check.specs.Words.{delivers, is_delivery, is_nobody, knows, nodes_of, same_key, tells_sign}
+use Rattle.cany_check.specs.Words.{delivers, is_delivery, knows, nodes_of, same_key, tells_sign}
 use Rattle.cany_check.proofs.CorrectLogs.{log_at}
+use Rattle.cany_check.proofs.HolderFacts.{no_nodes}
 
 -- ---- keys and services
 
@@ -121,12 +123,6 @@ module _ (scenario : ScenarioParts) (s : RunState) (i : ℕ) (sign : FailureSign
 
 -- ---- sets
 
-pub is_nobody-true : (set : Nodes) → is_nobody set ≡ true → set ≡ nobody
-is_nobody-true set h = λ k. record { bits = (eqb-true set.bits 0 h) k }
-
-pub is_nobody-from : (set : Nodes) → set ≡ nobody → is_nobody set ≡ true
-is_nobody-from set e = eq-eqb set.bits 0 (ap (λ (x : Nodes). x.bits) e)
-
 -- a set with a log of a node that there can be is not empty
 has_node : (ys : List LogParts) (y : LogParts) → y.node < most_nodes → Among (λ z. z ≡ y) ys → has (nodes_of ys) y.node ≡ true
 unfolding nodes_of
@@ -135,14 +131,6 @@ has_node ys y within among =
     ∙ and_from (nat_lt y.node most_nodes) (list_any (λ log. log.node == y.node) ys) (lt-ltb y.node most_nodes within)
     (any-from_Among (λ log. log.node == y.node) ys
     (Among-weaker (λ z. z ≡ y) (λ z. (z.node == y.node) ≡ true) (λ z e. eq-eqb z.node y.node (ap (λ (w : LogParts). w.node) e)) ys among))
-
-neither : (b : Bool) → (b && false) ≡ false
-neither true = refl
-neither false = refl
-
-no_nodes : nodes_of [] ≡ nobody
-unfolding nodes_of
-no_nodes = sym (same_as_those_where nobody (λ i. false) (λ i. has_none i ∙ sym (neither (nat_lt i most_nodes))))
 
 pub somebody : (logs : List LogParts) (x : LogParts) → x.node < most_nodes → Among (λ y. y ≡ x) logs → is_nobody (nodes_of logs) ≡ false
 somebody logs x below there = elim (cases_Bool (is_nobody (nodes_of logs))) [

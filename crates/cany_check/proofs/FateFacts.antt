@@ -5,13 +5,14 @@ use Rattle.std.specs.List.{AllByRecursion}
 use Rattle.std.proofs.lemmas.Bool.{cases_Bool, false≢true}
 use Rattle.cany_base.specs.Limits.{most_nodes}
 use Rattle.cany_base.specs.Scenario.{ScenarioParts}
+use Rattle.cany_base.specs.Nodes.{is_nobody}
 use Rattle.cany_model.specs.Bus.State.{RunState}
 use Rattle.cany_model.proofs.Among.{Among, Each-of}
 use Rattle.cany_check.specs.declared.findings.Fate.{Fate}
 use Rattle.cany_check.specs.declared.findings.Fate.TheVariants.{All, Nobody, Apart, Open}
 use Rattle.cany_check.specs.Account.{LogParts}
 use Rattle.cany_check.specs.Verdict.{is_apart, is_open}
-use Rattle.cany_check.specs.Words.{is_nobody, nodes_of}
+use Rattle.cany_check.specs.Words.{nodes_of}
 use Rattle.cany_check.proofs.CorrectLogs.{among_filter, each_filter, log_at}
 use Rattle.cany_check.proofs.Decided.{some_log, somebody}
 

@@ -10,8 +10,9 @@ use Rattle.cany_base.specs.declared.log_entry.LogEntry.TheVariants.{Deliver, Fai
 use Rattle.cany_base.specs.declared.slot_note.SlotNote.{SlotNote}
 use Rattle.cany_base.specs.declared.step.Step.{Step}
 use Rattle.cany_base.specs.Limits.{most_nodes}
-use Rattle.cany_base.specs.Nodes.{Nodes, nobody}
+use Rattle.cany_base.specs.Nodes.{Nodes, nobody, is_nobody}
 use Rattle.cany_base.specs.Scenario.{ScenarioParts}
+use Rattle.cany_base.proofs.EmptyFacts.{is_nobody-from, is_nobody-true}
 use Rattle.cany_model.specs.Bus.Frames.{Identity, is_of}
 use Rattle.cany_model.specs.Bus.Slot.{carried}
 use Rattle.cany_model.specs.Bus.State.{RunState, node_at}
@@ -38,9 +39,9 @@ use Rattle.cany_check.specs.Account.{AccountParts, LogParts, account_of, first_a
 use Rattle.cany_check.specs.Fates.{message_fate, sign_fate, sign_has, sign_lacks}
 use Rattle.cany_check.specs.Verdict.{is_apart, is_open}
 use Rattle.cany_check.specs.Words as words
-use Rattle.cany_check.specs.Words.{correct, delivers, is_nobody, knows, nodes_of, takes_part}
+use Rattle.cany_check.specs.Words.{correct, delivers, knows, nodes_of, takes_part}
 use Rattle.cany_check.proofs.CorrectLogs.{IsLogOfCorrect, among_filter, each_correct, each_filter, has_correct, has_running, log_at, unread_fits}
-use Rattle.cany_check.proofs.Decided.{delivers_from, has_delivered, has_signed, is_nobody-from, is_nobody-true, knows_from}
+use Rattle.cany_check.proofs.Decided.{delivers_from, has_delivered, has_signed, knows_from}
 use Rattle.cany_check.proofs.InOrderFacts.{among_ascending}
 use Rattle.cany_check.proofs.FateFacts.{AreLogsOf, IsApartBy, IsSignApartBy, all_have, apart_by, apart_if, apart_only, fate_of, has_it, not_open, one_has, one_lacks, open_if, open_only, sign_apart_if, sign_apart_only, sign_fate_of}
 

@@ -9,7 +9,7 @@ use Rattle.std.proofs.lemmas.Option.{slice_get-get_or}
 use Rattle.cany_base.specs.declared.rule.Verdict.{Verdict}
 use Rattle.cany_base.specs.declared.slot_note.SlotNote.{SlotNote}
 use Rattle.cany_base.specs.Limits.{most_nodes}
-use Rattle.cany_base.specs.Nodes.{AllBelow, Nodes, has, meet, those_where}
+use Rattle.cany_base.specs.Nodes.{AllBelow, Nodes, has, meet, those_where, is_nobody}
 use Rattle.cany_base.proofs.NodesFacts.{AllBelow-bits, bits_where-lt, has_lowest, has_none}
 use Rattle.cany_model.specs.Bus.Slot.{is_clean}
 use Rattle.cany_model.specs.Bus.State.{RunState}
@@ -17,7 +17,6 @@ use Rattle.cany_model.proofs.Bus.Seen.{Numbered}
 use Rattle.cany_check.specs.declared.unused_entry.NoFault.{NoFault}
 use Rattle.cany_check.specs.declared.unused_entry.NoFault.TheVariants.{Idle, RejectsNobody, StopsNobody}
 use Rattle.cany_check.specs.Unused.{is_receiver, note_of, reject_set, some_node_of, unused_stops, unused_verdict}
-use Rattle.cany_check.specs.Words.{is_nobody}
 
 -- ---- the note of a slot
 

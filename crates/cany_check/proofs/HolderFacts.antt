@@ -11,8 +11,9 @@ use Rattle.std.proofs.lemmas.List.Folds.{list_any-append}
 use Rattle.std.proofs.lemmas.List.Sums.{fold-append}
 use Rattle.cany_base.specs.declared.log_entry.LogEntry.{LogEntry}
 use Rattle.cany_base.specs.Limits.{most_nodes}
-use Rattle.cany_base.specs.Nodes.{Nodes, has, has as is_in, minus, nobody, those_where, with_node}
+use Rattle.cany_base.specs.Nodes.{has, has as is_in, minus, nobody, those_where, with_node}
 use Rattle.cany_base.proofs.NodesFacts.{has-those_where, has_none, same_as_those_where, those_where-ext}
+use Rattle.cany_base.proofs.SetFacts.{with_node_twice}
 use Rattle.cany_check.specs.declared.holders.Holders.{Holders}
 use Rattle.cany_check.specs.Account.{AccountParts, LogParts}
 use Rattle.cany_check.specs.Fates.{least_and_greatest, with_slot}
@@ -58,17 +59,6 @@ no_nodes = sym (same_as_those_where nobody (λ i. false) (λ i. has_none i ∙ n
     no_and : (b : Bool) → false ≡ (b && false)
     no_and true = refl
     no_and false = refl
-
-or_twice : (b c : Bool) → ((b || c) || c) ≡ (b || c)
-or_twice true c = refl
-or_twice false true = refl
-or_twice false false = refl
-
-with_node_twice : (q : ℕ) (nodes : Nodes) → with_node q (with_node q nodes) ≡ with_node q nodes
-with_node_twice q nodes =
-    those_where-ext (λ i. has (with_node q nodes) i || i == q) (λ i. has nodes i || i == q) (λ i below.
-    ap (λ b. b || i == q) (has-those_where (λ r. has nodes r || r == q) i ∙ ap (λ b. b && (has nodes i || i == q)) (lt-ltb i most_nodes below))
-    ∙ or_twice (has nodes i) (i == q))
 
 -- ---- one log more
 

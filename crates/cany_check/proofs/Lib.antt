@@ -35,7 +35,6 @@ pub mod RecordFacts
 pub mod ReferenceFacts
 pub mod Rows
 pub mod RowWords
-pub mod SetFacts
 pub mod SignFacts
 pub mod SignsOfRun
 pub mod SignTable

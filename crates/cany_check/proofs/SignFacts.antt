@@ -11,7 +11,7 @@ use Rattle.std.proofs.lemmas.Bool.{and_parts, cases_Bool, cases_eq, cases_lt, ca
 use Rattle.std.proofs.lemmas.Cmp.{nat_cmp_total, on_total, ranked, then_total}
 use Rattle.std.proofs.lemmas.List.Sorted.{searchable_from_sorted}
 use Rattle.std.proofs.lemmas.Option.{get_or_from_slice_get, slice_get-get_or, slice_get_read}
-use Rattle.cany_base.specs.Nodes.{Nodes, minus, nobody}
+use Rattle.cany_base.specs.Nodes.{Nodes, minus, nobody, is_nobody}
 use Rattle.cany_check.specs.declared.holders.Holders.{Holders}
 use Rattle.cany_check.specs.declared.record.SignRecord.{SignRecord}
 use Rattle.cany_check.specs.declared.record.Slots.{Slots}
@@ -22,7 +22,7 @@ use Rattle.cany_check.specs.Holders.{AreHolders, IsOnly, counts_since, holders_i
 use Rattle.cany_check.specs.InOrder.{ascending, put_once}
 use Rattle.cany_check.specs.Orderly.{IsOrderly, sign_named}
 use Rattle.cany_check.specs.SignSubjects.{DoAscend, names_at, sign_since, since_at, tells_at}
-use Rattle.cany_check.specs.Words.{counting_for_sign, counts_for_sign, is_nobody, knows, nodes_of, takes_part, takes_part_for, tells_sign}
+use Rattle.cany_check.specs.Words.{counting_for_sign, counts_for_sign, knows, nodes_of, takes_part, takes_part_for, tells_sign}
 use Rattle.cany_check.proofs.HolderFacts.{both_tests, held_at, lacking_nodes, one_runs_of}
 
 -- ---- one before another

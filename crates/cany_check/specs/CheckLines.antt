@@ -3,12 +3,12 @@ use Rattle.std.specs.Prelude.{ℕ, ◌+◌, Bool, if◌then◌else◌, List, [],
 use Rattle.std.specs.Option.{option_map_or}
 use Rattle.cany_base.specs.declared.message.Service.{Service}
 use Rattle.cany_base.specs.declared.message.Service.TheVariants.{Tot}
-use Rattle.cany_base.specs.Nodes.{Nodes}
+use Rattle.cany_base.specs.Nodes.{is_nobody}
 use Rattle.cany_base.specs.Params.{Parameters}
 use Rattle.cany_model.specs.Rules.Messages.{is_service}
 use Rattle.cany_text.specs.ReportLines.{line_of, set_text}
 use Rattle.cany_text.specs.TextNames.{service_name}
-use Rattle.cany_log.specs.Fields.{number_if_any}
+use Rattle.cany_log.specs.Fields.{number_if_any, set_if_any}
 use Rattle.cany_check.specs.declared.findings.Accusation.{Accusation}
 use Rattle.cany_check.specs.declared.findings.Delivery.{Delivery}
 use Rattle.cany_check.specs.declared.findings.EntryAt.{EntryAt}
@@ -27,16 +27,11 @@ use Rattle.cany_check.specs.declared.unused_entry.NoFault.TheVariants.{Attempts,
 use Rattle.cany_check.specs.declared.unused_entry.Unused.{Unused}
 use Rattle.cany_check.specs.declared.unused_entry.UnusedEntry.{UnusedEntry}
 use Rattle.cany_check.specs.declared.unused_entry.UnusedEntry.TheVariants.{Send, Fault, Join, Leave, Restart}
-use Rattle.cany_check.specs.Words.{is_nobody}
 
 -- ---- fields that stand there only sometimes
 
 abbrev pub text_if : Bool → List ℕ → List (List ℕ)
 text_if test text = if test then text ∷ [] else []
-
--- the word and the set, where it has a node
-abbrev pub set_if_any : List ℕ → Nodes → List (List ℕ)
-set_if_any word nodes = if is_nobody nodes then [] else word ∷ set_text nodes ∷ []
 
 -- the word and the first and the last slot, where there are any
 abbrev pub slots_if_any : List ℕ → Option Slots → List (List ℕ)

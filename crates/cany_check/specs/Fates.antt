@@ -2,7 +2,7 @@
 use Rattle.std.specs.Prelude.{ℕ, ◌&&◌, ◌||◌, ◌==◌, min, max, Bool, not, is_none, if◌then◌else◌, List, filter, map, Option, Some, None}
 use Rattle.std.specs.List.{flat_map, fold, list_any}
 use Rattle.cany_base.specs.declared.log_entry.LogEntry.{LogEntry}
-use Rattle.cany_base.specs.Nodes.{Nodes, has, nobody}
+use Rattle.cany_base.specs.Nodes.{Nodes, has, nobody, is_nobody}
 use Rattle.cany_check.specs.declared.record.MessageRecord.{MessageRecord}
 use Rattle.cany_check.specs.declared.record.SignRecord.{SignRecord}
 use Rattle.cany_check.specs.declared.record.Slots.{Slots}
@@ -10,7 +10,7 @@ use Rattle.cany_check.specs.declared.findings.Fate.{Fate}
 use Rattle.cany_check.specs.declared.findings.Fate.TheVariants.{All, Nobody, Apart, Open}
 use Rattle.cany_check.specs.declared.findings.Told.{Told}
 use Rattle.cany_check.specs.Account.{AccountParts, LogParts}
-use Rattle.cany_check.specs.Words.{counting, counting_for_sign, delivers, entry_slot, is_delivery, is_nobody, is_settled, knows, nodes_of, tells_sign}
+use Rattle.cany_check.specs.Words.{counting, counting_for_sign, delivers, entry_slot, is_delivery, is_settled, knows, nodes_of, tells_sign}
 
 -- ---- slots of entries
 

@@ -14,7 +14,7 @@ use Rattle.cany_base.specs.declared.rule.Verdict.TheVariants.{Clean, Lost, Parti
 use Rattle.cany_base.specs.declared.slot_note.SlotNote.{SlotNote}
 use Rattle.cany_base.specs.Cycles.{cycle_of}
 use Rattle.cany_base.specs.Limits.{most_nodes}
-use Rattle.cany_base.specs.Nodes.{Nodes, has, nobody}
+use Rattle.cany_base.specs.Nodes.{Nodes, has, nobody, is_nobody}
 use Rattle.cany_base.specs.Scenario.{ScenarioParts}
 use Rattle.cany_model.specs.Bus.Frames.{Identity, is_of}
 use Rattle.cany_model.specs.Bus.Restart.{restarted_in}
@@ -28,7 +28,6 @@ use Rattle.cany_check.specs.declared.unused_entry.NoFault.TheVariants.{Attempts,
 use Rattle.cany_check.specs.declared.unused_entry.Unused.{Unused}
 use Rattle.cany_check.specs.declared.unused_entry.UnusedEntry.{UnusedEntry}
 use Rattle.cany_check.specs.declared.unused_entry.UnusedEntry.TheVariants as entry
-use Rattle.cany_check.specs.Words.{is_nobody}
 
 -- ---- what a node did in a slot
 

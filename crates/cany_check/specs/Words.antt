@@ -6,7 +6,7 @@ use Rattle.std.specs.Str.{bytes_eq}
 use Rattle.cany_base.specs.declared.log_entry.LogEntry.{LogEntry}
 use Rattle.cany_base.specs.declared.log_entry.LogEntry.TheVariants.{Deliver, Failed, View}
 use Rattle.cany_base.specs.declared.message.MsgKey.{MsgKey}
-use Rattle.cany_base.specs.Nodes.{Nodes, those_where}
+use Rattle.cany_base.specs.Nodes.{Nodes, those_where, is_nobody}
 use Rattle.cany_model.specs.Rules.Messages.{is_service}
 use Rattle.cany_check.specs.declared.record.MessageRecord.{MessageRecord}
 use Rattle.cany_check.specs.declared.record.SignRecord.{SignRecord}
@@ -25,9 +25,6 @@ takes_part slot log = nat_le log.from slot
 -- the nodes of these logs
 unfoldable pub nodes_of : List LogParts → Nodes
 nodes_of logs = those_where (λ i. list_any (λ log. log.node == i) logs)
-
-abbrev pub is_nobody : Nodes → Bool
-is_nobody nodes = nodes.bits == 0
 
 -- ---- messages
 

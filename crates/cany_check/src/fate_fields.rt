@@ -76,18 +76,6 @@ pub(crate) fn text_if(test: bool, word: &'static str) -> Field
     if test { Field::Text(word) } else { NOTHING }
 }
 
-/// The word and the set, where it has a node.
-pub(crate) fn set_if_any(word: &'static str, nodes: NodeSet) -> Field
-    ensures texts { texts_of result ≡ line.set_if_any word.now nodes }
-    ensures short { most_bytes result ≤ 183 + length word.now }
-{
-    if nodes.bits() == 0 {
-        NOTHING
-    } else {
-        Field::SetIfAny(word, nodes)
-    }
-}
-
 /// The first slot, or a dash.
 pub(crate) fn first_or_dash(slots: Option<Slots>) -> Field
     ensures texts { texts_of result ≡ parts.first_or_dash slots }

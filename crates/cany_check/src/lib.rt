@@ -30,7 +30,6 @@ mod order;
 mod places;
 mod presence;
 mod record;
-mod sets;
 mod sign_lines;
 mod sign_records;
 mod signs;

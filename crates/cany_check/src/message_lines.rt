@@ -11,8 +11,7 @@ ghost use Rattle.cany_log.specs.Written.{IsWritten};
 
 use crate::account::Account;
 use crate::fate_fields::{
-    FateFields, apart_fields, first_of, first_or_dash, last_if_any, named, named_set, set_if_any,
-    text_if,
+    FateFields, apart_fields, first_of, first_or_dash, last_if_any, named, named_set, text_if,
 };
 use crate::findings::{Fate, Told};
 use crate::record::MessageRecord;
@@ -54,7 +53,7 @@ fn due_if_ahead(params: &Params, message: &MessageRecord) -> Option<Slot>
     requires carried { AreSmallSlots message.now.carried }
     ensures { result ≡ line.due_if_ahead params.now message.now }
 {
-    if message.ahead.bits() == 0 {
+    if message.ahead.is_empty() {
         return None;
     }
     Some(last_copy(message) + wait(params, message.service))
@@ -70,8 +69,8 @@ fn open_fields(params: &Params, message: &MessageRecord) -> FateFields
     FateFields {
         first: Field::Text("open"),
         second: text_if(message.queued, "queued"),
-        third: set_if_any("waits", message.waits),
-        fourth: set_if_any("ahead", message.ahead),
+        third: Field::SetIfAny("waits", message.waits),
+        fourth: Field::SetIfAny("ahead", message.ahead),
         fifth: Field::NumberIfAny("by", due_if_ahead(params, message)),
     }
 }

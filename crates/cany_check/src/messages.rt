@@ -3,7 +3,7 @@ ghost use Rattle.std.specs.Prelude.{◌≡◌, ℕ, Bool, Option, Some, length, 
 ghost use Rattle.cany_check.specs.Fates.{fate_by, message_fates, message_told};
 ghost use Rattle.cany_check.specs.Holders.{AreHolders, holders_in};
 ghost use Rattle.cany_check.specs.MessageSubjects.{delivers_at, place_named, since_at};
-ghost use Rattle.cany_check.specs.Words.{is_delivery, is_nobody, is_settled, since};
+ghost use Rattle.cany_check.specs.Words.{is_delivery, is_settled, since};
 
 use crate::account::Account;
 use crate::entries::is_delivery;
@@ -11,7 +11,6 @@ use crate::findings::{Fate, Told};
 use crate::holders::{Holders, Subjects, counting, holders_of};
 use crate::places::{Places, places_of};
 use crate::record::MessageRecord;
-use crate::sets::is_nobody;
 use crate::told::{HasFate, told_of_all};
 use cany_base::{LogEntry, Memory, NodeSet, Slot};
 use std::alloc::Global;
@@ -71,7 +70,7 @@ impl<'a> Subjects for Places<'a> {
 fn is_settled(message: &MessageRecord) -> bool
     ensures { result ≡ is_settled message.now }
 {
-    !message.queued && is_nobody(message.waits) && is_nobody(message.ahead)
+    !message.queued && message.waits.is_empty() && message.ahead.is_empty()
 }
 
 /// The fate of a message, where these of the nodes that count have it and those lack it, and its
@@ -82,10 +81,10 @@ fn fate(settled: bool, has: NodeSet, lacks: NodeSet, origin: bool) -> Fate
     if !settled {
         return Fate::Open;
     }
-    if !is_nobody(lacks) && (!is_nobody(has) || origin) {
+    if !lacks.is_empty() && (!has.is_empty() || origin) {
         return Fate::Apart;
     }
-    if is_nobody(lacks) && !is_nobody(has) {
+    if lacks.is_empty() && !has.is_empty() {
         return Fate::All;
     }
     Fate::Nobody

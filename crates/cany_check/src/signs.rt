@@ -1,15 +1,15 @@
 //! What became of the failure signs of an account.
 ghost use Rattle.std.specs.Prelude.{◌≡◌, not, is_none, length, IfOk};
+ghost use Rattle.cany_base.specs.Nodes.{is_nobody};
 ghost use Rattle.cany_check.specs.Fates.{sign_fate_by, sign_fates, sign_told};
 ghost use Rattle.cany_check.specs.Holders.{IsOnly, holders_in};
 ghost use Rattle.cany_check.specs.SignSubjects.{DoAscend, names_at, sign_since, since_at, tells_at};
-ghost use Rattle.cany_check.specs.Words.{is_nobody, tells_sign};
+ghost use Rattle.cany_check.specs.Words.{tells_sign};
 
 use crate::account::Account;
 use crate::findings::{Fate, Told};
 use crate::holders::{Holders, Subjects, counting, holders_of};
 use crate::record::SignRecord;
-use crate::sets::is_nobody;
 use crate::told::{HasFate, told_of_all};
 use cany_base::{LogEntry, Memory, NodeId, NodeSet, Slot};
 use std::alloc::Global;
@@ -91,13 +91,13 @@ impl<'a> Subjects for Signs<'a> {
 fn fate(sign: &SignRecord, has: NodeSet, lacks: NodeSet) -> Fate
     ensures { result ≡ sign_fate_by (not (is_nobody sign.now.waits)) (not (is_none sign.now.carried)) has lacks }
 {
-    if !is_nobody(sign.waits) {
+    if !sign.waits.is_empty() {
         return Fate::Open;
     }
-    if !is_nobody(has) && (!is_nobody(lacks) || sign.carried.is_none()) {
+    if !has.is_empty() && (!lacks.is_empty() || sign.carried.is_none()) {
         return Fate::Apart;
     }
-    if sign.carried.is_some() && !is_nobody(has) && is_nobody(lacks) {
+    if sign.carried.is_some() && !has.is_empty() && lacks.is_empty() {
         return Fate::All;
     }
     Fate::Nobody

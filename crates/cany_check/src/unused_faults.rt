@@ -14,7 +14,6 @@ ghost use Rattle.cany_check.specs.Unused.{as_list, attempt_slot, is_receiver, re
 use crate::attempts::Attempts;
 use crate::finding::{as_fault, push_found};
 use crate::presence::ran_in;
-use crate::sets::is_nobody;
 use crate::unused_entry::{NoFault, Unused};
 use can_fault::{FrameIdentity, Script};
 use cany_base::{Memory, NodeId, NodeSet, Place, Rule, Slot, SlotNote, Verdict};
@@ -79,7 +78,7 @@ fn unused_verdict(world: &World, slot: Slot, verdict: &Verdict, note: &SlotNote)
         };
     }
     let reject = reject_set(verdict);
-    if is_nobody(reject) || has_receiver(world, note, reject) {
+    if reject.is_empty() || has_receiver(world, note, reject) {
         return None;
     }
     Some(NoFault::RejectsNobody(slot))
@@ -89,7 +88,7 @@ fn unused_verdict(world: &World, slot: Slot, verdict: &Verdict, note: &SlotNote)
 fn unused_stops(slot: Slot, stop: NodeSet, note: &SlotNote) -> Option<NoFault>
     ensures { as_list result ≡ unused_stops slot stop (Some note.now) }
 {
-    if is_nobody(stop) || !is_nobody(stop.meet(note.stops)) {
+    if stop.is_empty() || !stop.meet(note.stops).is_empty() {
         return None;
     }
     Some(NoFault::StopsNobody(slot))

@@ -25,8 +25,8 @@ use cany_base::{
     Action, Actions, Format, Frame, Memory, MsgKey, NodeId, Notice, NoticeKind, Payload, Scenario,
     Service,
 };
-use cany_diffuse::{Diffused, Eager, Learnt};
-use cany_message::{Calls, Reply, identifier_without_incarnation, put, sends_by};
+use cany_diffuse::{Diffused, Eager};
+use cany_message::{Calls, Reply, put, reply_to_copy, sends_by};
 use std::alloc::Global;
 use std::marker::Model;
 
@@ -179,20 +179,5 @@ impl Edcan {
         let _spare = self.copies.spare();
         let data = Data::of(frame);
         frame.node.get() == self.node.get() && self.copies.holds(&data)
-    }
-}
-
-/// The reply to the copy of a frame: the frame is relayed.
-#[inline(always)]
-fn reply_to_copy(format: Format, learnt: &Learnt, frame: &Frame) -> Reply
-    requires { HasSmallNumbers format frame.now }
-    ensures { replied result frame.now ≡ relay_actions format learnt.now frame.now }
-{
-    match learnt {
-        Learnt::First => Reply::Asks,
-        Learnt::Again { .. } => Reply::Nothing,
-        Learnt::Enough { .. } => Reply::Withdraws {
-            ident: identifier_without_incarnation(format, frame),
-        },
     }
 }

@@ -1,15 +1,14 @@
 -- Vectors that were met, and sets that are part of one another.
 use Rattle.std.specs.Prelude.{nat_lt}
 use Rattle.std.proofs.Common.{◌≡◌, ℕ, ◌≤◌, true, Option, Some, None, ◌==◌, unwrap_or, IfSome, ap, ◌∙◌, arith}
-use Rattle.std.specs.Cmp.{both_ways}
-use Rattle.std.proofs.lemmas.Bool.{eq-eqb, eqb-true, ltb-true}
+use Rattle.std.proofs.lemmas.Bool.{eq-eqb}
 use Rattle.cany_base.specs.Limits.{most_nodes}
 use Rattle.cany_base.specs.Nodes.{Nodes, AllBelow, has}
 use Rattle.cany_base.specs.Params.{Parameters}
-use Rattle.cany_base.proofs.NodesFacts.{same_nodes}
-use Rattle.cany_base.proofs.SetFacts.{below_meet, has_where, meet_both, set_where}
+use Rattle.cany_base.proofs.SetFacts.{below_meet, meet_both, set_where}
 use Rattle.cany_model.specs.Rules.Notices.{IsPart}
 use Rattle.cany_model.specs.Rules.Vectors.{everybody, met_with}
+use Rattle.cany_model.proofs.Rules.KnowledgeNodes.{everybody_below}
 
 -- ---- a vector that was met
 
@@ -20,22 +19,12 @@ pub all_nodes : (p : Parameters) (nodes : Nodes) (n : ℕ) → n ≡ p.nodes →
 all_nodes p nodes n is few below same =
     set_where nodes (λ r. nat_lt r p.nodes) (λ r h. omega (arith, below r h, is, few)) (λ r. same r ∙ ap (nat_lt r) is)
 
-everybody_below : (p : Parameters) → AllBelow p.nodes (everybody p)
-everybody_below p r h =
-    ltb-true r p.nodes (has_where (λ q. nat_lt q p.nodes) r h)
-
 pub met_with_below : (p : Parameters) (own : Option Nodes) (got : Nodes) → IfSome own (AllBelow p.nodes)
     → AllBelow p.nodes (met_with p own got)
 met_with_below p None got below = below_meet p.nodes (everybody p) got (everybody_below p)
 met_with_below p (Some own) got below = below_meet p.nodes own got below
 
 -- ---- sets that are part of one another
-
-pub part_same : (a b : Nodes) → IsPart a b → IsPart b a → a ≡ b
-part_same a b there back = same_nodes a b (λ r. both_ways (has a r) (has b r) (there r) (back r))
-
-pub same_bits : (a b : Nodes) → (a.bits == b.bits) ≡ true → a ≡ b
-same_bits a b h = ap (λ n. record { bits = n }) (eqb-true a.bits b.bits h)
 
 pub bits_same : (a b : Nodes) → a ≡ b → (a.bits == b.bits) ≡ true
 bits_same a b h = eq-eqb a.bits b.bits (ap (λ (n : Nodes). n.bits) h)

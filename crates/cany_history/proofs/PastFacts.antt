@@ -9,13 +9,14 @@ use Rattle.cany_base.specs.declared.notice.NoticeKind.TheVariants.{Idle, Got, Se
 use Rattle.cany_base.specs.Frame.{FrameParts}
 use Rattle.cany_base.specs.Nodes.{Nodes}
 use Rattle.cany_base.specs.Params.{Parameters}
+use Rattle.cany_base.proofs.SetFacts.{same_bits, same_by_parts}
 use Rattle.cany_model.specs.Bus.Frames.{same_class}
 use Rattle.cany_model.specs.Rules.Notices.{IsPart, IsReadAfterStart, IsReadableVector}
 use Rattle.cany_model.specs.Rules.Vectors.{is_just, is_new, is_vector_got, is_vector_sent, vector_in}
 use Rattle.cany_model.proofs.Among.{Each-weaker, count-no}
 use Rattle.cany_model.proofs.Bus.Identities.{same_class-true}
 use Rattle.cany_history.specs.History.{HasMore, HasNoVector, StandsIn, vector_read}
-use Rattle.cany_history.proofs.MetFacts.{bits_same, part_same, same_bits}
+use Rattle.cany_history.proofs.MetFacts.{bits_same}
 
 -- ---- a frame with a vector of the cycle
 
@@ -107,9 +108,9 @@ module _ (format : Format) (cycle i : ℕ) where
   unfolding is_new
   other_vector None v w stands part new = absurd stands
   other_vector (Some own) v w stands part new = false_from_ne_true (w.bits == v.bits) (λ same.
-      let is : w ≡ v = same_bits w v same in
+      let is : w ≡ v = same_bits w v (eqb-true w.bits v.bits same) in
       let there : IsPart own v = subst (λ x. IsPart own x) is stands in
-      let still : (own.bits == v.bits) ≡ true = bits_same own v (part_same own v there (part own refl)) in
+      let still : (own.bits == v.bits) ≡ true = bits_same own v (same_by_parts own v there (part own refl)) in
       let other : not true ≡ true = rw still at new in
       absurd (cc))
 

@@ -7,6 +7,7 @@ use Rattle.cany_base.specs.declared.notice.NoticeKind.TheVariants.{Idle, Got, Se
 use Rattle.cany_base.specs.Frame.{FrameParts}
 use Rattle.cany_base.specs.Nodes.{Nodes}
 use Rattle.cany_base.specs.Params.{Parameters}
+use Rattle.cany_base.proofs.SetFacts.{same_bits}
 use Rattle.cany_model.specs.Rules.Notices.{CarriesMore, IsPart, IsReadableVector, IsSentWithMore}
 use Rattle.cany_model.specs.Rules.Vectors.{brought, is_just, is_new, is_vector_got, is_vector_sent, met, met_with, vector_in}
 use Rattle.cany_base.specs.Cycles.{cycle_of, is_exchange}
@@ -14,7 +15,7 @@ use Rattle.cany_model.proofs.Among.{count-cons, count-no}
 use Rattle.cany_history.specs.History.{HasMore, HistoryParts, IsExchangeOf, StandsIn}
 use Rattle.cany_history.specs.HistorySteps.{after_meeting, after_reading, is_just_own, is_own_vector, met_by}
 use Rattle.cany_history.proofs.PastFacts.{new_copies, new_own, smaller_more, vector_frame}
-use Rattle.cany_history.proofs.MetFacts.{met_part_got, met_part_own, same_bits}
+use Rattle.cany_history.proofs.MetFacts.{met_part_got, met_part_own}
 
 -- ---- what a value has after a notice
 
@@ -67,7 +68,7 @@ old_vector : (old : Option Nodes) (v : Nodes) → is_new old v ≡ false → old
 unfolding is_new
 old_vector None v h = absurd (cc)
 old_vector (Some u) v h = elim (cases_Bool (u.bits == v.bits)) [
-  | inl same ↦ ap Some (same_bits u v same)
+  | inl same ↦ ap Some (same_bits u v (eqb-true u.bits v.bits same))
   | inr other ↦ let e : not false ≡ false = rw other at h in absurd (cc)
 ]
 

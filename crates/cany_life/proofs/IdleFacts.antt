@@ -6,9 +6,9 @@ use Rattle.std.proofs.lemmas.List.{append-nil, get_or-set_other, get_or-set_same
 use Rattle.cany_base.specs.declared.actions.Action.{Action}
 use Rattle.cany_base.specs.Limits.{most_nodes}
 use Rattle.cany_base.specs.Nodes.{Nodes, has, with_node}
+use Rattle.cany_base.proofs.SetFacts.{has-with_node}
 use Rattle.cany_life.specs.Life.{LifeParts}
 use Rattle.cany_life.specs.LifeSteps.{IsIdleUntil, all_marked, found_actions, found_below, has_timed_out_at, is_watched}
-use Rattle.cany_life.proofs.KnownFacts.{has-with_node}
 
 -- where more nodes have failed, no more are watched
 fewer_watched : (other failed more : Bool) → (failed ≡ true → more ≡ true) → (other && not more) ≡ true → (other && not failed) ≡ true

@@ -2,7 +2,7 @@
 use Rattle.std.specs.Prelude.{nat_lt}
 use Rattle.std.proofs.Common.{◌≡◌, ℕ, ◌<◌, ◌==◌, ◌&&◌, ◌||◌, Bool, true, false, inl, inr, List, [], ◌∷◌, length, set, refl, ap, sym, ◌∙◌, arith}
 use Rattle.std.specs.List.{AllByRecursion}
-use Rattle.std.proofs.lemmas.Bool.{cases_eq, eq-eqb, lt-ltb, ne_eqb}
+use Rattle.std.proofs.lemmas.Bool.{cases_eq, eq-eqb, ne_eqb}
 use Rattle.std.proofs.lemmas.List.{get_or-set_other, get_or-set_same}
 use Rattle.cany_base.specs.declared.notice.NoticeKind.{NoticeKind}
 use Rattle.cany_base.specs.Limits.{most_nodes}
@@ -10,15 +10,12 @@ use Rattle.cany_base.specs.Nodes.{Nodes, has, nobody, with_node}
 use Rattle.cany_base.specs.Scenario.{ScenarioParts}
 use Rattle.cany_base.proofs.NodesFacts.{has-those_where}
 use Rattle.cany_base.proofs.ParamsFacts.{few_nodes}
+use Rattle.cany_base.proofs.SetFacts.{has-with_node}
 use Rattle.cany_diffuse.specs.Eager.{EagerParts}
 use Rattle.cany_model.specs.Rules.Knowledge.{FailureSign, Knowledge, knows, with_sign, with_signs}
 use Rattle.cany_life.specs.Life.{AreCopies, IsReading, IsSignOf, LifeParts, known_in}
 use Rattle.cany_life.specs.LifeSteps.{all_marked, marked}
 use Rattle.cany_life.proofs.MarkFacts.{length-marked}
-
--- the nodes of a set with one node more
-pub has-with_node : (r node : ℕ) (nodes : Nodes) → r < most_nodes → has (with_node node nodes) r ≡ (has nodes r || r == node)
-has-with_node r node nodes near = has-those_where (λ q. has nodes q || q == node) r ∙ (rw (lt-ltb r most_nodes near) refl)
 
 -- the sets of nodes at which two tests agree have the same nodes
 same_failed : (a b : Nodes) (node r : ℕ) → has a r ≡ has b r → has (with_node node a) r ≡ has (with_node node b) r

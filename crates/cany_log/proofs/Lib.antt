@@ -1,4 +1,3 @@
-pub mod AnyFacts
 pub mod CountFacts
 pub mod FieldFacts
 pub mod LetterFacts

@@ -1,11 +1,11 @@
 -- The pieces that the code makes lines of.
 use Rattle.std.specs.Prelude.{ℕ, ◌+◌, List, [], ◌∷◌, Option, Some, None, if◌then◌else◌, length, codes, decimal}
 use Rattle.std.specs.List.{flat_map}
-use Rattle.cany_base.specs.Nodes.{Nodes}
+use Rattle.cany_base.specs.Nodes.{Nodes, is_nobody}
 use Rattle.cany_log.specs.declared.field.Field.{Field}
 use Rattle.cany_log.specs.declared.field.Field.TheVariants.{Text, Number, Count, SignedNumber, Node, Byte, Bytes, Set, NumberIfAny, SetIfAny}
 use Rattle.cany_text.specs.RefusalLines.{signed_decimal}
-use Rattle.cany_text.specs.ReportLines.{byte_text, has_any, node_text, payload_text, set_text}
+use Rattle.cany_text.specs.ReportLines.{byte_text, node_text, payload_text, set_text}
 
 -- the word and the number, where there is one
 abbrev pub number_if_any : List ℕ → Option ℕ → List (List ℕ)
@@ -14,7 +14,7 @@ number_if_any word (Some n) = word ∷ decimal n ∷ []
 
 -- the word and the set, where it has a node
 abbrev pub set_if_any : List ℕ → Nodes → List (List ℕ)
-set_if_any word nodes = if has_any nodes then word ∷ set_text nodes ∷ [] else []
+set_if_any word nodes = if is_nobody nodes then [] else word ∷ set_text nodes ∷ []
 
 -- the fields that a piece is: one, or two or none
 abbrev pub texts_of : Field → List (List ℕ)

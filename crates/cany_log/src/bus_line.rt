@@ -5,7 +5,7 @@ ghost use Rattle.cany_text.specs.ReportLines as report;
 ghost use Rattle.cany_text.specs.TextNames.{class_name, verdict_name};
 ghost use Rattle.cany_log.specs.Fields.{most_payload_bytes, spaced};
 
-use crate::line::{has_any, put_set_if_any};
+use crate::line::put_set_if_any;
 use crate::page::{PAGE_BYTES, Page};
 use can_frame::is_remote;
 use cany_base::{Frame, NodeSet, SlotNote};
@@ -66,5 +66,5 @@ pub(crate) fn put_bus_line(note: &SlotNote, again: NodeSet, page: &mut Page)
 pub(crate) fn is_shown(note: &SlotNote, again: NodeSet) -> bool
     ensures { result ≡ report.is_shown note.now again }
 {
-    note.frame.is_some() || has_any(note.stops) || has_any(again)
+    note.frame.is_some() || !note.stops.is_empty() || !again.is_empty()
 }

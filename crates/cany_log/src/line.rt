@@ -17,13 +17,6 @@ pub const SHORT_LINE_BYTES: usize = 256;
 /// How many bytes a line of the journal has at most: its word, 64 letters and the line feed.
 pub(crate) const JOURNAL_LINE_BYTES: usize = 73;
 
-/// Whether the set has a node.
-pub(crate) fn has_any(nodes: NodeSet) -> bool
-    ensures { result ≡ report.has_any nodes }
-{
-    nodes.bits() > 0
-}
-
 fn put_number_if_any<const ROOM: usize>(
     line_buffer: &mut LineBuffer<ROOM>,
     word: &'static str,
@@ -48,7 +41,7 @@ pub(crate) fn put_set_if_any<const ROOM: usize>(
     ensures text { line_buffer.new ≡ spaced (set_if_any word.now nodes) ++ line_buffer.old }
     ensures short { length (spaced (set_if_any word.now nodes)) ≤ (1 + length word.now) + (1 + most_set_bytes) }
 {
-    if has_any(nodes) {
+    if !nodes.is_empty() {
         line_buffer.put_set(nodes);
         line_buffer.put_text(word);
     }

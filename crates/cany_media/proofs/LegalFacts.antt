@@ -11,10 +11,10 @@ use Rattle.cany_base.specs.declared.rule.Place.TheVariants.{At, FrameNth}
 use Rattle.cany_base.specs.declared.rule.Rule.{Rule}
 use Rattle.cany_base.specs.declared.rule.Verdict.TheVariants.{Lost}
 use Rattle.cany_base.specs.Limits.{most_rules}
-use Rattle.cany_base.specs.Nodes.{AllBelow, Nodes, nobody}
+use Rattle.cany_base.specs.Nodes.{AllBelow, Nodes}
 use Rattle.cany_base.specs.Params.{Parameters}
 use Rattle.cany_base.specs.Scenario.{IsLegalScenario, IsRuleOf, ScenarioParts, same_place}
-use Rattle.cany_base.proofs.NodesFacts.{has_none}
+use Rattle.cany_base.proofs.SetFacts.{below_nobody}
 use Rattle.cany_model.specs.Bus.Slot.{ruling_of}
 use Rattle.cany_media.specs.MediaRun.{blind_ruling, is_blind}
 use Rattle.cany_media.specs.Plan.{FaultParts}
@@ -58,12 +58,9 @@ All-filter P test (rule ∷ rules) all = elim (cases_Bool (test rule)) [
   | inr goes ↦ rw goes (All-filter P test rules (All-tail P rule rules all))
 ]
 
-none_below : (bound : ℕ) → AllBelow bound nobody
-none_below bound node is = absurd (false≢true (sym (has_none node) ∙ is))
-
 -- the nodes that a rule stops, or nobody
 stops_below : (p : Parameters) (test : Rule → Bool) (rules : List Rule) → All (IsRuleOf p) rules → AllBelow p.nodes (ruling_of (find test rules)).stop
-stops_below p test [] all = none_below p.nodes
+stops_below p test [] all = below_nobody p.nodes
 stops_below p test (rule ∷ rules) all = elim (cases_Bool (test rule)) [
   | inl here ↦ rw here (All-head (IsRuleOf p) rule rules all).stop
   | inr other ↦ rw other (stops_below p test rules (All-tail (IsRuleOf p) rule rules all))

@@ -1,9 +1,11 @@
 ghost use Rattle.std.specs.Prelude.{◌≡◌, ◌+◌, ◌<◌, ◌≤◌, ◌++◌, length};
 ghost use Rattle.can_frame.specs.Identifier.{HasSmallNumbers};
 ghost use Rattle.cany_message.specs.Actions.{delivery_actions, relay_actions, withdraw_actions};
+ghost use Rattle.cany_message.specs.Calls.{replied};
 ghost use Rattle.cany_model.specs.Bus.Frames.{identity_of};
 ghost use Rattle.cany_model.specs.Rules.Actions.{ident_of};
 
+use crate::calls::{Reply, put_reply};
 use can_frame::{identifier, small_numbers_fit};
 use cany_base::{Action, Actions, Format, Frame, LogEntry, MsgKey, Service, Slot};
 use cany_diffuse::Learnt;
@@ -55,6 +57,21 @@ pub fn withdraw(format: Format, frame: &Frame, withdraws: bool, out: &mut Action
     }
 }
 
+/// What a node does with a frame for what its copy calls for.
+#[inline(always)]
+pub fn reply_to_copy(format: Format, learnt: &Learnt, frame: &Frame) -> Reply
+    requires { HasSmallNumbers format frame.now }
+    ensures { replied result frame.now ≡ relay_actions format learnt.now frame.now }
+{
+    match learnt {
+        Learnt::First => Reply::Asks,
+        Learnt::Again { .. } => Reply::Nothing,
+        Learnt::Enough { .. } => Reply::Withdraws {
+            ident: identifier_without_incarnation(format, frame),
+        },
+    }
+}
+
 /// Asks for a frame, withdraws it or does nothing, as its copy calls for.
 pub fn relay(format: Format, learnt: &Learnt, frame: &Frame, out: &mut Actions)
     requires small { HasSmallNumbers format frame.now }
@@ -63,9 +80,6 @@ pub fn relay(format: Format, learnt: &Learnt, frame: &Frame, out: &mut Actions)
     ensures room { out.new.room ≡ out.old.room }
     ensures few { length out.new.items ≤ length out.old.items + 1 }
 {
-    match learnt {
-        Learnt::First => out.push(Action::Ask(*frame)),
-        Learnt::Again { .. } => {}
-        Learnt::Enough { .. } => withdraw(format, frame, true, out),
-    }
+    let reply = reply_to_copy(format, learnt, frame);
+    put_reply(reply, frame, out);
 }

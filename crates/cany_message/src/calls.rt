@@ -1,5 +1,5 @@
-ghost use Rattle.std.specs.Prelude.{◌≡◌, ◌+◌, ◌≤◌, ◌++◌, length};
-ghost use Rattle.cany_message.specs.Calls.{actions_called, frame_actions};
+ghost use Rattle.std.specs.Prelude.{◌≡◌, ◌+◌, ◌<◌, ◌≤◌, ◌++◌, length};
+ghost use Rattle.cany_message.specs.Calls.{actions_called, frame_actions, replied};
 ghost use Rattle.cany_model.specs.Rules.Relcan.{confirm_frame};
 
 use crate::actions::deliver;
@@ -68,7 +68,18 @@ fn put_of(service: Service, calls: &Calls, slot: Slot, frame: &Frame, out: &mut 
     ensures few { length out.new.items ≤ length out.old.items + 2 }
 {
     deliver(service, slot, frame, calls.delivers, out);
-    match calls.reply {
+    put_reply(calls.reply, frame, out);
+}
+
+/// Appends the reply to a frame to the actions.
+#[inline(always)]
+pub(crate) fn put_reply(reply: Reply, frame: &Frame, out: &mut Actions)
+    requires { length out.old.items < out.old.room }
+    ensures actions { out.new.items ≡ out.old.items ++ replied reply frame.now }
+    ensures room { out.new.room ≡ out.old.room }
+    ensures few { length out.new.items ≤ length out.old.items + 1 }
+{
+    match reply {
         Reply::Nothing => {}
         Reply::Asks => out.push(Action::Ask(*frame)),
         Reply::Confirms => out.push(Action::Ask(confirmation_frame(frame))),

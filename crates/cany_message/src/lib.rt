@@ -12,7 +12,7 @@ mod sends;
 mod sequence;
 mod threads;
 
-pub use actions::{deliver, identifier_without_incarnation, relay, withdraw};
+pub use actions::{deliver, identifier_without_incarnation, relay, reply_to_copy, withdraw};
 pub use calls::{Calls, Reply, confirmation_frame, put};
 pub use frame::{FrameClass, MessageFrame, bare_frame, is_of_class};
 pub use keys::keys_of;

@@ -1,11 +1,10 @@
 -- What a node knows of the site before its first turn.
 use Rattle.std.proofs.Common.{◌≡◌, ℕ, List, [], None, replicate, ap, sym, subst, ◌∙◌}
-use Rattle.std.proofs.lemmas.Bool.{false≢true}
 use Rattle.cany_base.specs.declared.notice.NoticeKind.{NoticeKind}
 use Rattle.cany_base.specs.declared.notice.NoticeKind.TheVariants.{Idle}
 use Rattle.cany_base.specs.Nodes.{AllBelow, nobody}
 use Rattle.cany_base.specs.Scenario.{ScenarioParts, IsLegalScenario}
-use Rattle.cany_base.proofs.NodesFacts.{has_none}
+use Rattle.cany_base.proofs.SetFacts.{below_nobody}
 use Rattle.cany_model.specs.Bus.State.{Incarnation}
 use Rattle.cany_model.specs.Rules.KnowledgeOf.{knowledge_of}
 use Rattle.cany_model.specs.Rules.Knowledge.{Knowledge, knowledge_at_first}
@@ -17,15 +16,12 @@ use Rattle.cany_life.specs.Life.{IsLifeOf, LifeParts}
 use Rattle.cany_views.specs.Views.{IsViewsOf, ViewsParts}
 use Rattle.cany_node.specs.Membership.{IsMembershipAtRest, IsMembershipOf, MembershipParts}
 
-nobody_below : (bound : ℕ) → AllBelow bound nobody
-nobody_below bound = λ node is. absurd (false≢true (sym (has_none node) ∙ is))
-
 -- at the node of the opening nobody has failed, and it has the members of the scenario
 pub site_opens : (scenario : ScenarioParts) (i : ℕ) (v : MembershipParts) → IsMembershipAtRest scenario i v → IsMembershipOf scenario i [] v
 unfolding knowledge_of
 site_opens scenario i v rest = record {
   params = rest.params;
-  failed = nobody_below scenario.params.nodes;
+  failed = below_nobody scenario.params.nodes;
   life = rest.life 0 scenario.members;
   history = rest.history 0;
   views = rest.views;
@@ -93,7 +89,7 @@ pub site_begins : (scenario : ScenarioParts) (inc : Incarnation) (i n : ℕ) (ol
     → IsMembershipOf (scenario_for scenario inc) i (replicate n Idle) new
 site_begins scenario inc i n old new rest became legal outside begun = record {
   params = became.params ∙ rest.params;
-  failed = subst (λ (st : Knowledge). AllBelow scenario.params.nodes st.failed) (sym known) (nobody_below scenario.params.nodes);
+  failed = subst (λ (st : Knowledge). AllBelow scenario.params.nodes st.failed) (sym known) (below_nobody scenario.params.nodes);
   life = subst (λ st. IsLifeOf followed i past st new.life) (sym known)
       (subst (IsLifeOf followed i past (knowledge_at_first nobody)) (sym became.life)
       (life_for scenario inc i past (knowledge_at_first nobody) old.life legal (rest.life n nobody)));

@@ -18,7 +18,7 @@ use Rattle.cany_base.specs.Nodes.{Nodes, has}
 use Rattle.cany_base.specs.Params.{default_parameters}
 use Rattle.cany_base.specs.Scenario.{ScenarioParts}
 use Rattle.cany_text.specs.Report.{bus_lines, incarnation_lines, node_lines, message_lines, report_lines, report}
-use Rattle.cany_text.specs.ReportLines.{line_of, break_name, payload_text, set_text, step_letter, first_line, params_line, journal_line, journal_lines, node_text, has_any, bus_line, is_shown, hypothesis_line, node_line, entry_line, message_line}
+use Rattle.cany_text.specs.ReportLines.{line_of, break_name, payload_text, set_text, step_letter, first_line, params_line, journal_line, journal_lines, node_text, bus_line, is_shown, hypothesis_line, node_line, entry_line, message_line}
 use Rattle.cany_text.specs.TextNames.{class_name, service_name, verdict_name}
 use Rattle.cany_model.specs.Bus.History.{ended_history}
 use Rattle.cany_model.specs.Runs.Incarnations.{incarnation_of}
@@ -33,7 +33,7 @@ unfolding send scenario_of
 one_send slots rules = scenario_of (default_parameters 3 slots) 7 (send 0 0 (1 ∷ []) ∷ []) rules []
 
 unfoldable pub text_of : ScenarioParts → List ℕ
-unfolding run_report ended_history incarnation_of restarted_in digits line_of class_name service_name verdict_name break_name payload_text set_text step_letter first_line params_line journal_line journal_lines node_text has_any bus_line is_shown hypothesis_line node_line entry_line message_line bus_lines incarnation_lines node_lines message_lines report_lines report
+unfolding run_report ended_history incarnation_of restarted_in digits line_of class_name service_name verdict_name break_name payload_text set_text step_letter first_line params_line journal_line journal_lines node_text bus_line is_shown hypothesis_line node_line entry_line message_line bus_lines incarnation_lines node_lines message_lines report_lines report
 text_of scenario = report scenario (round_robin scenario)
 
 -- one message, no fault: all deliver it, and the others relay it together
@@ -110,7 +110,7 @@ lost_sign inc = record {
 
 -- opens what the lines of a note are written with
 unfoldable note_row : Unit {0}
-unfolding bus_line idle_slot lost_sign nodes node_text is_shown has_any line_of digits class_name verdict_name payload_text set_text has
+unfolding bus_line idle_slot lost_sign nodes node_text is_shown line_of digits class_name verdict_name payload_text set_text has
 note_row = tt
 
 bus_lines_alone : bus_line (idle_slot 7 9) (nodes 0) ∷ bus_line (lost_sign 0) (nodes 0) ∷ []

@@ -16,6 +16,7 @@ use Rattle.cany_base.specs.declared.slot_note.SlotNote.{SlotNote}
 use Rattle.cany_base.specs.declared.step.Step.{Step}
 use Rattle.cany_base.specs.declared.step.Step.TheVariants.{Slot, Turn}
 use Rattle.cany_base.specs.Frame.{FrameParts}
+use Rattle.cany_base.specs.Nodes.{is_nobody}
 use Rattle.cany_base.specs.Params.{Parameters}
 use Rattle.cany_base.specs.Scenario.{ScenarioParts}
 use Rattle.cany_model.specs.declared.breaks.Break.{Break}
@@ -93,7 +94,7 @@ delivers_tot slot origin seq payload = Deliver slot service.Tot (record { origin
 -- ---- what a run shows
 
 abbrev pub is_shown : SlotNote → Bool
-is_shown note = is_some note.frame || not (note.stops.bits == 0)
+is_shown note = is_some note.frame || not (is_nobody note.stops)
 
 -- the slots that carried a frame or at whose end a node stopped, oldest first
 unfoldable pub shown : List SlotNote → List SlotNote

@@ -14,7 +14,7 @@ use Rattle.cany_model.proofs.RowWords.{ask, run_words, scenario_of, send, set, s
 use Rattle.cany_model.specs.Runs.RoundRobin.{round_robin}
 use Rattle.cany_settle.specs.LastEvent.{greatest, last_slot}
 use Rattle.cany_settle.specs.TailText.{claim_line, ending_lines, enough_line, lengths_lines, number_line, tail_lines, tail_text, word_line}
-use Rattle.cany_text.specs.ReportLines.{break_name, has_any, hypothesis_line, line_of}
+use Rattle.cany_text.specs.ReportLines.{break_name, hypothesis_line, line_of}
 
 -- three nodes at lag 0, with everything else by default: all are members, or nobody is, so that no life sign is sent
 unfoldable scenario : ℕ → ℕ → List SendAsk → List Rule → List NodeAsk → ScenarioParts
@@ -38,7 +38,7 @@ unfolding scenario send slot_rule ask
 restart_hears_again = scenario 60 7 (send Ed 50 1 (1 ∷ []) ∷ []) (slot_rule 5 Clean 1 ∷ []) (ask 10 0 ∷ [])
 
 unfoldable text_of : ScenarioParts → List ℕ
-unfolding run_words digits open_count settled_count settled_line greatest last_slot claim_line ending_lines enough_line lengths_lines number_line tail_lines tail_text word_line break_name has_any hypothesis_line line_of
+unfolding run_words digits open_count settled_count settled_line greatest last_slot claim_line ending_lines enough_line lengths_lines number_line tail_lines tail_text word_line break_name hypothesis_line line_of
 text_of sc = tail_text sc (round_robin sc)
 
 -- the run of five slots is too short to be claimed, though its message is settled: 146 are needed

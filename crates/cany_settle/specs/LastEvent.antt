@@ -4,12 +4,12 @@ use Rattle.std.specs.Prelude.{ℕ, ◌||◌, Bool, not, nat_lt, if◌then◌else
 use Rattle.cany_base.specs.declared.message.NodeAsk.{NodeAsk}
 use Rattle.cany_base.specs.declared.message.SendAsk.{SendAsk}
 use Rattle.cany_base.specs.declared.slot_note.SlotNote.{SlotNote}
+use Rattle.cany_base.specs.Nodes.{is_nobody}
 use Rattle.cany_base.specs.Scenario.{ScenarioParts}
 use Rattle.cany_model.specs.Bus.Slot.{carried}
 use Rattle.cany_model.specs.Bus.State.{RunState}
 use Rattle.cany_model.specs.Promises.Hypothesis.{is_error_slot}
 use Rattle.cany_model.specs.Promises.Quiet.{is_top}
-use Rattle.cany_text.specs.ReportLines.{has_any}
 
 abbrev pub greater : ℕ → ℕ → ℕ
 greater a b = if nat_lt a b then b else a
@@ -30,7 +30,7 @@ is_lower_slot note = carried (λ f. not (is_top f.class)) note
 
 -- a node stopped at its end: of each incarnation of it
 abbrev pub is_stop_slot : SlotNote → Bool
-is_stop_slot note = has_any note.stops
+is_stop_slot note = not (is_nobody note.stops)
 
 abbrev pub is_event : SlotNote → Bool
 is_event note = is_lower_slot note || is_error_slot note || is_stop_slot note

@@ -44,7 +44,7 @@ fn has_failed(note: &SlotNote) -> bool
 fn has_stop(note: &SlotNote) -> bool
     ensures { result ≡ event.is_stop_slot note.now }
 {
-    note.stops.bits() > 0
+    !note.stops.is_empty()
 }
 
 fn is_event(note: &SlotNote) -> bool

@@ -16,14 +16,14 @@ use Rattle.cany_base.specs.declared.step.Step.{Step}
 use Rattle.cany_base.specs.declared.step.Step.TheVariants.{Slot, Turn}
 use Rattle.cany_base.specs.Frame.{FrameParts, is_remote}
 use Rattle.cany_base.specs.Layout.{format_number}
-use Rattle.cany_base.specs.Nodes.{Nodes, has, node_numbers}
+use Rattle.cany_base.specs.Nodes.{Nodes, has, is_nobody, node_numbers}
 use Rattle.cany_base.specs.Params.{Parameters}
 use Rattle.cany_model.specs.declared.breaks.Break.{Break}
 use Rattle.cany_model.specs.declared.breaks.BreakKind.{BreakKind}
 use Rattle.cany_model.specs.declared.breaks.BreakKind.TheVariants as kind
 use Rattle.cany_model.specs.declared.span.Span.{Span}
 use Rattle.cany_model.specs.Rules.Messages.{Message}
-use Rattle.cany_text.specs.ReportLines.{line_of, byte_text, payload_text, frame_payload, numbers_text, set_text, node_text, step_letter, break_name, first_line, params_line, journal_line, has_any, bus_line, hypothesis_line, node_line, entry_line, message_line}
+use Rattle.cany_text.specs.ReportLines.{line_of, byte_text, payload_text, frame_payload, numbers_text, set_text, node_text, step_letter, break_name, first_line, params_line, journal_line, bus_line, hypothesis_line, node_line, entry_line, message_line}
 use Rattle.cany_text.specs.TextNames.{class_name, service_name, verdict_name}
 use Rattle.cany_model.proofs.Among.{Each-append}
 use Rattle.cany_text.proofs.ReadOffText.{Lacks, lacks-cons, lacks-append, byte_lacks, choice_lacks, decimals_lack, join_lacks, IsLine, Told, number, texts, texts_lack, told_line, told_line_with, word}
@@ -140,10 +140,10 @@ journal_line_is steps = told_line (plain (codes "journal") refl ∷ plain (map s
 
 -- the fields for a set that may be empty
 abbrev set_part : List ℕ → Nodes → List (List ℕ)
-set_part word nodes = if has_any nodes then word ∷ set_text nodes ∷ [] else []
+set_part word nodes = if is_nobody nodes then [] else word ∷ set_text nodes ∷ []
 
 set_part_lacks : (word : List ℕ) (nodes : Nodes) → Lacks 10 word → AllByRecursion (Lacks 10) (set_part word nodes)
-set_part_lacks word nodes h = choice_all (has_any nodes) (word ∷ set_text nodes ∷ []) [] (h, (set_lacks 10 (omega arith) nodes, tt)) tt
+set_part_lacks word nodes h = choice_all (is_nobody nodes) [] (word ∷ set_text nodes ∷ []) tt (h, (set_lacks 10 (omega arith) nodes, tt))
 
 sets_lack : (stops again : Nodes) → AllByRecursion (Lacks 10) (set_part (codes "stop") stops ++ set_part (codes "restart") again)
 sets_lack stops again =

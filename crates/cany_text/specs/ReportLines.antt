@@ -1,5 +1,5 @@
 -- The lines of a report. A line is its fields, parted by one space, and ends with a line feed.
-use Rattle.std.specs.Prelude.{ℕ, ◌+◌, ◌*◌, ◌/◌, ◌%◌, Bool, ◌==◌, ◌||◌, nat_lt, if◌then◌else◌, List, [], ◌∷◌, ◌++◌, length, take, drop, map, filter, slice_index, Option, Some, None, is_some, codes, decimal}
+use Rattle.std.specs.Prelude.{ℕ, ◌+◌, ◌*◌, ◌/◌, ◌%◌, Bool, not, ◌==◌, ◌||◌, if◌then◌else◌, List, [], ◌∷◌, ◌++◌, length, take, drop, map, filter, slice_index, Option, Some, None, is_some, codes, decimal}
 use Rattle.std.specs.List.{flat_map, join_with_byte, range_with_len}
 use Rattle.cany_base.specs.declared.format.Format.{Format}
 use Rattle.cany_base.specs.declared.log_entry.LogEntry.{LogEntry}
@@ -9,7 +9,7 @@ use Rattle.cany_base.specs.declared.step.Step.{Step}
 use Rattle.cany_base.specs.declared.step.Step.TheVariants.{Slot, Turn}
 use Rattle.cany_base.specs.Frame.{FrameParts, is_remote}
 use Rattle.cany_base.specs.Layout.{format_number}
-use Rattle.cany_base.specs.Nodes.{Nodes, has, node_numbers, node_count}
+use Rattle.cany_base.specs.Nodes.{Nodes, has, is_nobody, node_numbers}
 use Rattle.cany_base.specs.Params.{Parameters}
 use Rattle.cany_model.specs.declared.breaks.Break.{Break}
 use Rattle.cany_model.specs.declared.breaks.BreakKind.{BreakKind}
@@ -89,13 +89,9 @@ frame_fields note (Some f) =
     class_name f.class ∷ node_text f.node f.inc ∷ decimal f.number ∷ frame_payload f
     ∷ codes "from" ∷ set_text note.senders ∷ codes "to" ∷ set_text note.takers ∷ verdict_name note.verdict ∷ []
 
--- whether the set has a node
-unfoldable pub has_any : Nodes → Bool
-has_any nodes = nat_lt 0 (node_count nodes)
-
 -- the word and the set, where it has a node
 abbrev set_fields : List ℕ → Nodes → List (List ℕ)
-set_fields word nodes = if has_any nodes then word ∷ set_text nodes ∷ [] else []
+set_fields word nodes = if is_nobody nodes then [] else word ∷ set_text nodes ∷ []
 
 -- what happened on the bus in a slot, at whose end these nodes started again
 unfoldable pub bus_line : SlotNote → Nodes → List ℕ
@@ -105,7 +101,7 @@ bus_line note again = line_of (
 
 -- whether a slot has a line: it carried a frame, or a node stopped or started again in it
 unfoldable pub is_shown : SlotNote → Nodes → Bool
-is_shown note again = is_some note.frame || has_any note.stops || has_any again
+is_shown note again = is_some note.frame || not (is_nobody note.stops) || not (is_nobody again)
 
 unfoldable pub hypothesis_line : Option Break → List ℕ
 hypothesis_line None = line_of (codes "hypothesis within" ∷ [])

@@ -1,15 +1,13 @@
 -- What a value of views stands for with other sets: before anything is heard, outside, and with a vector that becomes the view.
-use Rattle.std.proofs.Common.{◌≡◌, ℕ, ◌<◌, refl, ap, sym, ◌∙◌, arith}
-use Rattle.std.proofs.lemmas.Bool.{false≢true}
+use Rattle.std.proofs.Common.{◌≡◌, ℕ, ◌<◌, refl, ap, arith}
 use Rattle.cany_base.specs.Nodes.{AllBelow, Nodes, nobody, meet, minus}
 use Rattle.cany_base.specs.Scenario.{ScenarioParts, IsLegalScenario}
-use Rattle.cany_base.proofs.NodesFacts.{has_none}
 use Rattle.cany_model.specs.Rules.Knowledge.{Knowledge, knowledge_at_first}
 use Rattle.cany_model.specs.Rules.Views.{with_view}
 use Rattle.cany_views.specs.Views.{HasNodesOfBus, IsInBounds, IsViewsOf, ViewsParts, asked_cycles}
 use Rattle.cany_views.specs.ViewsSteps.{installed}
 use Rattle.cany_views.proofs.AskFacts.{asked_small}
-use Rattle.cany_base.proofs.SetFacts.{below_meet, below_minus}
+use Rattle.cany_base.proofs.SetFacts.{below_meet, below_minus, below_nobody}
 use Rattle.cany_model.proofs.Rules.NumberFacts.{cycle_small}
 
 -- ---- with other sets
@@ -33,15 +31,12 @@ stands_with scenario i knowledge after v members joiners leavers h below is_memb
 
 -- ---- before anything is heard
 
-nobody_below : (bound : ℕ) → AllBelow bound nobody
-nobody_below bound i is = absurd (false≢true (sym (has_none i) ∙ is))
-
 -- outside no member is known, and nobody has asked
 pub outside_below : (v : ViewsParts) → HasNodesOfBus (with_sets nobody nobody nobody v)
 outside_below v = record {
-  members = nobody_below v.params.nodes;
-  joiners = nobody_below v.params.nodes;
-  leavers = nobody_below v.params.nodes;
+  members = below_nobody v.params.nodes;
+  joiners = below_nobody v.params.nodes;
+  leavers = below_nobody v.params.nodes;
 }
 
 pub outside_stands : (scenario : ScenarioParts) (i : ℕ) (knowledge : Knowledge) (v : ViewsParts) → IsViewsOf scenario i knowledge v
@@ -70,8 +65,8 @@ first_stands scenario i legal = record {
   leavers = refl;
   below = record {
     members = legal.members;
-    joiners = nobody_below scenario.params.nodes;
-    leavers = nobody_below scenario.params.nodes;
+    joiners = below_nobody scenario.params.nodes;
+    leavers = below_nobody scenario.params.nodes;
   };
 }
 

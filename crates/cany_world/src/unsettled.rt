@@ -1,6 +1,6 @@
 //! Why a message or a sign is not settled: which nodes wait with a frame of it, and which have
 //! something of it ahead.
-ghost use Rattle.std.specs.Prelude.{◌≡◌, ◌<◌, ◌≤◌, ◌^◌, ◌↔◌, [], ◌∷◌, true, List, length, Contains};
+ghost use Rattle.std.specs.Prelude.{◌≡◌, ◌<◌, ◌≤◌, [], ◌∷◌, List, length};
 ghost use Rattle.cany_base.specs.declared.step.Step.{Step};
 ghost use Rattle.cany_base.specs.Layout.{layout};
 ghost use Rattle.cany_base.specs.Limits.{most_nodes};
@@ -17,7 +17,7 @@ use crate::incarnations::Incarnations;
 use crate::settled::{awaits, has_ahead};
 use can_controller::Controller;
 use can_controller::laws::frames_fit;
-use can_frame::identifier;
+use can_frame::{identifier, number_fits};
 use cany_base::{Class, Format, Frame, MsgKey, NodeId, NodeSet, Payload, Service};
 
 /// The running nodes that wait with a frame of the message.
@@ -63,16 +63,6 @@ pub(crate) fn nodes_ahead(
     set
 }
 
-/// Whether a number fits its field in an identifier of the format.
-fn fits(format: Format, number: u16) -> bool
-    ensures { (result ≡ true) ↔ (number < 2 ^ (layout format).number_width) }
-{
-    match format {
-        Format::One => true,
-        Format::Two => number < 32_768,
-    }
-}
-
 /// Whether the controller runs and waits with the frame of the sign that the node failed.
 fn awaits_sign(format: Format, node: NodeId, cycle: u16, controller: &Controller) -> bool
     requires node { node < (layout format).nodes }
@@ -80,7 +70,7 @@ fn awaits_sign(format: Format, node: NodeId, cycle: u16, controller: &Controller
     ensures { result ≡ awaits (fda_of (record { node = node; cycle = cycle }) ∷ []) controller.now }
 {
     frames_fit(controller);
-    if controller.stopped().is_some() || !fits(format, cycle) {
+    if controller.stopped().is_some() || !number_fits(format, cycle) {
         return false;
     }
     let frame = Frame {

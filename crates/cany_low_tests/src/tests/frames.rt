@@ -1,6 +1,7 @@
 //! Frames and their identifiers, as they are on a bus.
 use can_frame::{
-    FrameFault, class_of, frame_of, has_incarnation, identifier, is_remote, key, tells_incarnation,
+    FrameFault, class_of, frame_of, has_incarnation, identifier, is_remote, key, number_fits,
+    tells_incarnation,
 };
 use cany_base::Class::{Accept, Confirm, Ed, Els, Fda, Join, Leave, Rel, Rha, Tot};
 use cany_base::Format::{One, Two};
@@ -129,4 +130,10 @@ fn refusals(rt: HostRuntime) {
     for row in &REFUSED {
         assert!(rt; is_refused(row));
     }
+}
+
+#[test]
+fn numbers_fit_their_field(rt: HostRuntime) {
+    assert!(rt; number_fits(One, u16::MAX) && number_fits(Two, 32_767));
+    assert!(rt; !number_fits(Two, 32_768));
 }

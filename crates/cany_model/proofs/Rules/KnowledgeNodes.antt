@@ -1,14 +1,13 @@
 -- What a node knows of members, of those that ask to join and of its vector names nodes of the bus alone.
 use Rattle.std.proofs.Common.{◌≡◌, ℕ, ◌==◌, true, nat_lt, if◌then◌else◌, List, [], ◌∷◌, length, Option, Some, None, refl, sym, ◌∙◌, subst}
-use Rattle.std.proofs.lemmas.Bool.{cond_both, false≢true, ltb-true}
+use Rattle.std.proofs.lemmas.Bool.{cond_both, ltb-true}
 use Rattle.cany_base.specs.declared.class.Class.TheVariants as class
 use Rattle.cany_base.specs.declared.notice.NoticeKind.{NoticeKind}
 use Rattle.cany_base.specs.declared.notice.NoticeKind.TheVariants.{Idle, Got, Sent, Bad}
 use Rattle.cany_base.specs.Nodes.{Nodes, AllBelow, nobody, has, minus, with_node}
 use Rattle.cany_base.specs.Params.{Parameters}
 use Rattle.cany_base.specs.Scenario.{ScenarioParts}
-use Rattle.cany_base.proofs.NodesFacts.{has_none}
-use Rattle.cany_base.proofs.SetFacts.{below_meet, below_minus, below_plus, below_with, has_where}
+use Rattle.cany_base.proofs.SetFacts.{below_meet, below_minus, below_nobody, below_plus, below_with, has_where}
 use Rattle.cany_model.specs.Bus.Frames.{same_class}
 use Rattle.cany_model.specs.Bus.State.{Incarnation}
 use Rattle.cany_model.specs.Rules.Notices.{BelongsTo, IsReadable, NamesNode}
@@ -24,9 +23,6 @@ use Rattle.cany_model.proofs.Rules.KnowledgeSteps.{found_keeps, joiners_after, j
 
 -- ---- sets
 
-none_below : (bound : ℕ) → AllBelow bound nobody
-none_below bound r h = absurd (false≢true (sym (has_none r) ∙ h))
-
 pub everybody_below : (p : Parameters) → AllBelow p.nodes (everybody p)
 everybody_below p r h = ltb-true r p.nodes (has_where (λ q. nat_lt q p.nodes) r h)
 
@@ -34,7 +30,7 @@ everybody_below p r h = ltb-true r p.nodes (has_where (λ q. nat_lt q p.nodes) r
 pub first_members : (scenario : ScenarioParts) (inc : Incarnation) → AllBelow scenario.params.nodes scenario.members
     → AllBelow scenario.params.nodes (scenario_for scenario inc).members
 first_members scenario inc below =
-    cond_both (inc.number == 0) scenario.members nobody (AllBelow scenario.params.nodes) (λ _. below) (λ _. none_below scenario.params.nodes)
+    cond_both (inc.number == 0) scenario.members nobody (AllBelow scenario.params.nodes) (λ _. below) (λ _. below_nobody scenario.params.nodes)
 
 -- ---- a vector
 
@@ -154,6 +150,6 @@ pub knowledge_of_bus : (scenario : ScenarioParts) (i : ℕ) → AllBelow scenari
     → IsOfBus scenario.params (knowledge_of scenario i past)
 unfolding knowledge_of
 knowledge_of_bus scenario i first [] read =
-    record { members = first; joiners = none_below scenario.params.nodes; vector = tt }
+    record { members = first; joiners = below_nobody scenario.params.nodes; vector = tt }
 knowledge_of_bus scenario i first (e ∷ past) read =
     of_bus_after scenario i (length past) e (knowledge_of scenario i past) read.0 (knowledge_of_bus scenario i first past read.1)

@@ -1,8 +1,10 @@
 use Rattle.std.proofs.Common.{ap, sym, ◌∙◌, arith, cond}
+use Rattle.cany_base.specs.Nodes.{has}
+use Rattle.cany_base.proofs.EmptyFacts.{is_nobody-true}
+use Rattle.cany_base.proofs.NodesFacts.{has_none}
 use Rattle.can_controller.specs.Controller.{stopped_at}
 use Rattle.can_bus.specs.Contest.{stopped_by}
 use Rattle.can_bus.proofs.EachFacts.{changed_more, changed_all, each_stays}
-use Rattle.can_bus.proofs.SetFacts.{has_nobody}
 use Rattle.can_bus.proofs.seeing.stop_all.Goals as goal
 
 pub loop-i-preserved : goal.loop-i-preserved
@@ -13,7 +15,8 @@ loop-i-preserved c =
 pub returns : goal.returns
 returns c = changed_all (stopped_by c.args.slot c.args.stops) c.loop-i.i c.loop-i.controllers c.args.controllers.now c.loop-i.invariant (omega arith)
 
-pub returns-then-is_none : goal.returns-then-is_none
-returns-then-is_none c =
+pub returns-then-is_empty : goal.returns-then-is_empty
+returns-then-is_empty c =
+    let nobody_stops = is_nobody-true c.args.stops (sym c.is_empty.ensures.nobody ∙ c.if-is_empty.true) in
     each_stays (stopped_by c.args.slot c.args.stops) 0 c.args.controllers.now
-    (λ k x. ap (λ b. cond b (stopped_at c.args.slot x) x) (has_nobody c.args.stops c.least.result c.if-is_none.ensures c.least.ensures.none k))
+    (λ k x. ap (λ b. cond b (stopped_at c.args.slot x) x) (ap (λ set. has set k) nobody_stops ∙ has_none k))

@@ -18,6 +18,7 @@ use Rattle.cany_model.specs.Rules.Membership.{install_effects, views}
 use Rattle.cany_model.specs.Rules.KnowledgeOf.{met_in, knowledge_of}
 use Rattle.cany_model.specs.Rules.Turn.{turn_effects}
 use Rattle.cany_base.specs.Cycles.{cycle_of, is_end}
+use Rattle.cany_base.proofs.SetFacts.{same_bits}
 use Rattle.cany_model.specs.Rules.Views.{view_effects, withdrawn_asks}
 use Rattle.cany_model.proofs.Among.{Among, Among-append_cases, Among-from_Contains, Among-from_count, Among-weaker, count-from_Among, count-no}
 use Rattle.cany_model.proofs.Rules.MembershipEntries.{withdrawn_enter}
@@ -25,7 +26,6 @@ use Rattle.cany_model.proofs.Rules.TurnEntries.{IsOfSign, failures_enter, turn_e
 use Rattle.cany_model.proofs.Timed.Views.OneVector.{installed_before, installed_here}
 use Rattle.cany_model.proofs.Timed.Views.SameView.{end_place}
 use Rattle.cany_model.proofs.Timed.Common.KnowledgeAges.{ended_at}
-use Rattle.cany_model.proofs.Timed.Views.VectorSets.{same_bits}
 
 -- the entry is a view of this number with these members
 abbrev is_view_of : (number : ℕ) (members : Nodes) → LogEntry → Bool

@@ -16,6 +16,7 @@ use Rattle.cany_base.specs.Layout.{layout}
 use Rattle.cany_base.specs.Nodes.{AllBelow, Nodes, has}
 use Rattle.cany_base.specs.Params.{Parameters}
 use Rattle.cany_base.specs.Scenario.{ScenarioParts}
+use Rattle.cany_base.proofs.SetFacts.{same_by_parts}
 use Rattle.cany_model.specs.Bus.Frames.{Identity, identity_of, is_of, same_class}
 use Rattle.cany_model.specs.Bus.History.{given, is_hidden, seen}
 use Rattle.cany_model.specs.Bus.Slot.{carried}
@@ -40,7 +41,7 @@ use Rattle.cany_model.proofs.Rules.VectorFacts.{carries_vector}
 use Rattle.cany_model.proofs.Timed.Common.Ages.{gave, past}
 use Rattle.cany_model.proofs.Timed.Order.TotRun.{past_next}
 use Rattle.cany_model.proofs.Timed.Views.VectorKept.{Covers, HasRead, HasVector, IsOpen, IsSentOf, SentCovers, Untouched, VectorKept, own_frame}
-use Rattle.cany_model.proofs.Timed.Views.VectorSets.{just_this, meet_left, meet_right, same_by_parts, vector_again}
+use Rattle.cany_model.proofs.Timed.Views.VectorSets.{just_this, meet_left, meet_right, vector_again}
 use Rattle.cany_model.proofs.Timed.Views.VectorSteps.{vector_turn}
 use Rattle.cany_model.proofs.Timed.Views.VectorTurns.{turn_exchanges}
 use Rattle.cany_model.proofs.Timed.Views.VectorLastEffect.{IsCycle, brings}

@@ -9,7 +9,7 @@ use Rattle.cany_base.specs.Nodes.{Nodes, AllBelow, has, meet}
 use Rattle.cany_base.specs.Payload.{vector_bytes, vector_of}
 use Rattle.cany_base.proofs.NodesFacts.{bits-lt, same_nodes}
 use Rattle.cany_base.proofs.PayloadFacts.{bits-back}
-use Rattle.cany_base.proofs.SetFacts.{meet_both}
+use Rattle.cany_base.proofs.SetFacts.{meet_both, same_bits}
 use Rattle.cany_model.specs.Rules.Notices.{IsPart}
 use Rattle.cany_model.specs.Rules.Vectors.{is_just}
 
@@ -20,20 +20,6 @@ meet_left a b r h = (meet_both a b r h).0
 
 pub meet_right : (a b : Nodes) → IsPart (meet a b) b
 meet_right a b r h = (meet_both a b r h).1
-
--- sets that are part of each other are equal
-pub same_by_parts : (v w : Nodes) → IsPart v w → IsPart w v → v ≡ w
-same_by_parts v w a b = same_nodes v w (λ r. by_test r (has v r) refl)
-  where
-    by_test : (r : ℕ) (t : Bool) → has v r ≡ t → has v r ≡ has w r
-    by_test r true h = h ∙ sym (a r h)
-    by_test r false h = elim (cases_Bool (has w r)) [
-      | inl there ↦ absurd (both_ways (has v r) h (b r there))
-      | inr absent ↦ h ∙ sym absent
-    ]
-
-pub same_bits : (v w : Nodes) → v.bits ≡ w.bits → v ≡ w
-same_bits v w e = λ i. record { bits = e i }
 
 -- ---- sizes
 

@@ -14,6 +14,7 @@ use Rattle.cany_base.specs.Nodes.{AllBelow, Nodes}
 use Rattle.cany_base.specs.Params.{Parameters}
 use Rattle.cany_base.specs.Payload.{vector_of}
 use Rattle.cany_base.specs.Scenario.{ScenarioParts}
+use Rattle.cany_base.proofs.SetFacts.{same_bits}
 use Rattle.cany_model.specs.Bus.Frames.{Identity, identity_of, same_class}
 use Rattle.cany_model.specs.Bus.History.{given}
 use Rattle.cany_model.specs.Runs.Run.{run}
@@ -34,7 +35,7 @@ use Rattle.cany_model.proofs.Rules.KnowledgeNodes.{IsVectorOfBus, first_members,
 use Rattle.cany_model.proofs.Rules.VectorFacts.{carries_vector}
 use Rattle.cany_model.proofs.Timed.Views.VectorHeld.{WaitedWith, held_none, held_slot, sent_held}
 use Rattle.cany_model.proofs.Timed.Views.VectorKept.{Answered, Covers, HasRead, HasVector, IsOpen, IsSentOf, NodeVector, SentCovers, Untouched, VectorKept, WaitCovers, own_frame}
-use Rattle.cany_model.proofs.Timed.Views.VectorSets.{just_this, meet_left, same_bits, vector_again}
+use Rattle.cany_model.proofs.Timed.Views.VectorSets.{just_this, meet_left, vector_again}
 use Rattle.cany_model.proofs.Timed.Views.VectorTurns.{starts_with, turn_ends, turn_exchanges, turn_other, turn_outside, turn_starts}
 use Rattle.cany_model.proofs.Timed.Views.VectorLastEffect.{IsCycle, brings, brought_last_effect, met_last_effect, start_last_effect}
 use Rattle.cany_model.proofs.Timed.Common.LastEffect.{by_last_effect, held, held_after, last_effect}
