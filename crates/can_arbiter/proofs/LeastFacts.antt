@@ -8,7 +8,8 @@ use Rattle.can_arbiter.proofs.RestFacts.{IsWithout, left_in, was_in}
 abbrev pub greatest : ℕ
 greatest = 2 ^ 32 - 1
 
--- of the nodes that offer all but the rest are gone over: this is the least of their words, and these have it
+-- of the nodes that offer all but the rest are gone over: this is the least of their words, and
+-- these have it
 pub record AreLeastSoFar (offering rest : ℕ → Bool) (word : ℕ → ℕ) (least : ℕ) (nodes : ℕ → Bool) : Type 0 where
   pub within : (i : ℕ) → IsTrue (rest i) → IsTrue (offering i)
   pub offer : (i : ℕ) → IsTrue (nodes i) → IsTrue (offering i)

@@ -20,9 +20,9 @@ GoesOn sending word place node =
     (bit_at (word node) place ≡ 0) ⊎
     ((other : ℕ) → IsTrue (sending other) → bit_at (word other) place ≡ 1)
 
--- the walk bit by bit, bit 31 first: those that offer begin, and after the bit at a place those still
--- send that go on there. `sending place` are the nodes that still send once the bits from `place` on
--- are sent
+-- the walk bit by bit, bit 31 first: those that offer begin, and after the bit at a place those
+-- still send that go on there. `sending place` are the nodes that still send once the bits from
+-- `place` on are sent
 pub record IsWalk (offering : ℕ → Bool) (word : ℕ → ℕ) (sending : ℕ → ℕ → Bool) : Type 0 where
   pub begins : (node : ℕ) → sending 32 node ≡ offering node
   pub stops :

@@ -19,8 +19,8 @@ fn only(node: NodeId) -> NodeSet
 }
 
 impl Outcome {
-    /// Enters what a node offers, after all offers of lesser nodes. So a slot is decided in one pass
-    /// over the nodes, as `arbitrate` decides it over a table of their offers.
+    /// Enters what a node offers, after all offers of lesser nodes. So a slot is decided in one
+    /// pass over the nodes, as `arbitrate` decides it over a table of their offers.
     // A hint, since the bus makes most of these calls in one place.
     #[inline(always)]
     pub fn enter(&mut self, format: Format, node: NodeId, frame: &Frame)

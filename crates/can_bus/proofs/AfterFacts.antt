@@ -39,7 +39,8 @@ stops_over scripted nodes note i node within is running over =
 
 -- ---- all controllers
 
--- each controller is changed by its place, and those stop that the script names or that have a counter above the limit
+-- each controller is changed by its place, and those stop that the script names or that have a
+-- counter above the limit
 pub are_after : ((i : ℕ) (note : SlotNote) (c : ControllerState) → SeenIsNodeAfter i note c)
     → (bare : SlotNote) (scripted stops : Nodes) (old new : List ControllerState) → ((i : ℕ) (c : ControllerState) → slice_get old i ≡ Some c → i < most_nodes)
     → stops ≡ stopping scripted (nodes_of old) bare → new ≡ each (λ i c. controller_after i (record bare { stops = stops }) c) 0 old

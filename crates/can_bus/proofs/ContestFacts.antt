@@ -1,4 +1,5 @@
--- What arbitration over the offers gives is what the definition of a slot says of the frame and its senders.
+-- What arbitration over the offers gives is what the definition of a slot says of the frame and its
+-- senders.
 use Rattle.std.proofs.Common.{◌≡◌, ℕ, ◌<◌, ◌≤◌, ◌&&◌, ◌||◌, ◌⊎◌, Bool, true, false, nat_lt, cond, List, [], ◌∷◌, refl, ap, sym, subst, ◌∙◌, arith, inl, inr}
 use Rattle.std.specs.Prelude.{All, Option, Some, None, slice_get}
 use Rattle.std.specs.Cmp.{both_ways}

@@ -1,4 +1,5 @@
--- What happens in a slot depends neither on how many notices the nodes have not read nor on their incarnations.
+-- What happens in a slot depends neither on how many notices the nodes have not read nor on their
+-- incarnations.
 use Rattle.std.proofs.Common.{◌≡◌, ℕ, zero, suc, ◌&&◌, ◌||◌, not, List, [], ◌∷◌, ◌++◌, length, map, refl, ap, sym, ◌∙◌, arith}
 use Rattle.std.specs.Prelude.{Option, Some, None, slice_get}
 use Rattle.std.specs.List.{flat_map}

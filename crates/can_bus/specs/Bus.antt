@@ -7,8 +7,8 @@ use Rattle.can_fault.specs.declared.identity.FrameIdentity.{FrameIdentity}
 use Rattle.can_fault.specs.Attempts.{AreCountsOf}
 use Rattle.can_fault.specs.Rules.{IsRuledBy}
 
--- the parameters, the notes of the slots, newest first, how often each frame that a rule names was carried, and how many
--- rules there may be
+-- the parameters, the notes of the slots, newest first, how often each frame that a rule names was
+-- carried, and how many rules there may be
 pub record BusParts : Type 0 where
   pub params : Parameters
   pub trace : List SlotNote

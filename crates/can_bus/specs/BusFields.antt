@@ -14,7 +14,8 @@ parts_of b = record {
   rules = b.tally.rules;
 }
 
--- the parameters are in their ranges, and the tally has noted the trace, which has room for each slot of the run
+-- the parameters are in their ranges, and the tally has noted the trace, which has room for each
+-- slot of the run
 pub record IsSound (b : Inside) : Type 0 where
   pub in_range : IsInRange b.params
   pub tally : IsTallyOf (reverse b.trace.items) b.tally

@@ -31,14 +31,15 @@ abbrev pub HaveRoom : List ControllerState → Type 0
 HaveRoom controllers =
     (i : ℕ) (c : ControllerState) → slice_get controllers i ≡ Some c → c.stopped ≡ None → length c.unread ≤ c.params.lag
 
--- the controller of node i after a slot: one that runs sees its share, and then stops where the note has it; one that has
--- stopped stays as it is
+-- the controller of node i after a slot: one that runs sees its share, and then stops where the
+-- note has it; one that has stopped stays as it is
 unfoldable pub controller_after : ℕ → SlotNote → ControllerState → ControllerState
 controller_after i note c =
     if is_none c.stopped then (if has note.stops i then stopped_at note.slot (seen note.slot (share_of i note) c) else seen note.slot (share_of i note) c)
     else c
 
--- the controllers after a slot: each is changed by its place, and one that ran is now the node after the slot
+-- the controllers after a slot: each is changed by its place, and one that ran is now the node
+-- after the slot
 pub record AreAfter (note : SlotNote) (old new : List ControllerState) : Type 0 where
   pub whole : length new ≡ length old
   pub each : (i : ℕ) → slice_get new i ≡ option_map (controller_after i note) (slice_get old i)
@@ -51,8 +52,8 @@ pub record IsSameBut (a b : NodeState) : Type 0 where
   pub receive : a.receive ≡ b.receive
   pub stopped : a.stopped ≡ b.stopped
 
--- the controllers are these nodes but for the unread notices, of which a stopped node of a run has more and more, and for the
--- incarnations, of which a controller knows nothing
+-- the controllers are these nodes but for the unread notices, of which a stopped node of a run has
+-- more and more, and for the incarnations, of which a controller knows nothing
 pub record StandFor (controllers : List ControllerState) (nodes : List NodeState) : Type 0 where
   pub whole : length nodes ≡ length controllers
   pub each : (i : ℕ) (c : ControllerState) → slice_get controllers i ≡ Some c → IsSameBut (node_state c) (node_at nodes i)

@@ -15,7 +15,8 @@ use crate::transmission::is_success;
 use can_controller::{Controller, Share};
 use cany_base::{Frame, NodeId, NodeSet, Notice, NoticeKind, Slot, SlotNote};
 
-/// The notice of a slot for those that take its frame, and that for those that send it with success.
+/// The notice of a slot for those that take its frame, and that for those that send it with
+/// success.
 #[derive(Drop)]
 struct Notices {
     got: Notice,
@@ -89,8 +90,9 @@ fn see_share(controller: &mut Controller, i: usize, note: &SlotNote, notices: &N
 
 /// Each running controller sees its share by these notices. Given are the nodes that do not run
 /// after that.
-// It is kept out of line so that each controller gets its notice copied whole. Where the notices are
-// made in the same function, they are taken apart, and each copy is put together piece by piece.
+// It is kept out of line so that each controller gets its notice copied whole. Where the notices
+// are made in the same function, they are taken apart, and each copy is put together piece by
+// piece.
 #[inline(never)]
 fn see_each(controllers: &mut [Controller], note: &SlotNote, notices: &Notices) -> NodeSet
     requires few { length controllers.old ≤ most_nodes }

@@ -1,4 +1,5 @@
--- What the identifiers and keys of frames that fit the format say of the tests of identity and order.
+-- What the identifiers and keys of frames that fit the format say of the tests of identity and
+-- order.
 use Rattle.std.proofs.Common.{◌≡◌, ◌≢◌, ℕ, ◌-◌, ◌^◌, ◌/◌, ◌%◌, ◌<◌, ◌==◌, ◌↔◌, inl, inr, Bool, true, false, not, nat_lt, if◌then◌else◌, refl, ap, sym, ◌∙◌, eqb-true, arith}
 use Rattle.std.specs.Cmp.{both_ways}
 use Rattle.std.proofs.lemmas.Bool.{eq-eqb, lt-ltb, le-ltb, ltb-true}

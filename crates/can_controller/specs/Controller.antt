@@ -10,8 +10,9 @@ use Rattle.cany_model.specs.Bus.History.{notice_of}
 use Rattle.cany_model.specs.Bus.Slot.{after_share, exceeds, node_after, share_of}
 use Rattle.cany_model.specs.Bus.State.{NodeState, fresh}
 
--- what it was built with: its node, the parameters and how many frames may wait; the waiting frames in the order in which
--- they win; the error counters; the notices not read yet, oldest first, and the next slot to read; the slot of its stop
+-- what it was built with: its node, the parameters and how many frames may wait; the waiting frames
+-- in the order in which they win; the error counters; the notices not read yet, oldest first, and
+-- the next slot to read; the slot of its stop
 pub record ControllerState : Type 0 where
   pub node : ℕ
   pub params : Parameters
@@ -23,8 +24,8 @@ pub record ControllerState : Type 0 where
   pub read : ℕ
   pub stopped : Option ℕ
 
--- the controller's node, as a run has it while it runs: of a stopped node a run goes on counting the slots as unread. Which
--- incarnation it is of, a controller does not know.
+-- the controller's node, as a run has it while it runs: of a stopped node a run goes on counting
+-- the slots as unread. Which incarnation it is of, a controller does not know.
 abbrev pub node_state : ControllerState → NodeState
 node_state c = record fresh {
   unread = length c.unread;
@@ -48,8 +49,8 @@ fresh_controller node params room = record {
   stopped = None;
 }
 
--- a running controller after its share in a slot: its frames and counters are those that the share leaves, one more notice is
--- unread, and it stops where a counter exceeds the limit
+-- a running controller after its share in a slot: its frames and counters are those that the share
+-- leaves, one more notice is unread, and it stops where a counter exceeds the limit
 abbrev pub seen : ℕ → Share → ControllerState → ControllerState
 seen slot share c =
     let after = after_share share (node_state c) in
@@ -65,8 +66,8 @@ seen slot share c =
 abbrev pub stopped_at : ℕ → ControllerState → ControllerState
 stopped_at slot c = record c { stopped = Some (unwrap_or c.stopped slot) }
 
--- the controller after the restart of its node at the end of a slot: it runs, nothing waits, nothing is unread, its counters are
--- zero, and the next slot is the next to read
+-- the controller after the restart of its node at the end of a slot: it runs, nothing waits,
+-- nothing is unread, its counters are zero, and the next slot is the next to read
 abbrev pub restarted_at : ℕ → ControllerState → ControllerState
 restarted_at slot c = record (fresh_controller c.node c.params c.room) { read = slot + 1 }
 
@@ -77,8 +78,8 @@ pub record HasStoppedBy (slot : ℕ) (c : ControllerState) : Type 0 where
   pub stopped : c.stopped ≡ Some stop
   pub by_then : stop ≤ slot
 
--- a running controller that sees its share, and then stops where the note stops its node, is the node after the slot, where
--- the note stops a node whose counters exceed the limit
+-- a running controller that sees its share, and then stops where the note stops its node, is the
+-- node after the slot, where the note stops a node whose counters exceed the limit
 abbrev pub SeenIsNodeAfter : ℕ → SlotNote → ControllerState → Type 0
 SeenIsNodeAfter i note c =
     c.stopped ≡ None → (exceeds (after_share (share_of i note) (node_state c)) ≡ true → has note.stops i ≡ true)

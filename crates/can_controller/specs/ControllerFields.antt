@@ -17,7 +17,8 @@ controller_state c = record {
   stopped = c.stopped;
 }
 
--- the ring holds one notice more than the lag, and the counters of a running controller are at most the limit
+-- the ring holds one notice more than the lag, and the counters of a running controller are at most
+-- the limit
 pub record IsSound (c : Inside) : Type 0 where
   pub format : c.waiting.format ≡ c.params.format
   pub lag : c.params.lag ≤ greatest_lag

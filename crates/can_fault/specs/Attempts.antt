@@ -21,7 +21,8 @@ raised count = min (count + 1) greatest
 abbrev pub count_of : List (FrameIdentity × ℕ) → Identity → Option ℕ
 count_of counts x = lookup (is_at (identity_cmp (frame_identity x))) counts
 
--- the counts have, for the frames that a rule names and for no others, how many slots of the run carried them
+-- the counts have, for the frames that a rule names and for no others, how many slots of the run
+-- carried them
 abbrev pub AreCountsOf : List Rule → List SlotNote → List (FrameIdentity × ℕ) → Type 0
 AreCountsOf rules trace counts =
     (x : Identity) → count_of counts x ≡ (if is_named rules x then Some (min (attempts x trace) greatest) else None)

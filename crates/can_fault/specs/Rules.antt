@@ -16,8 +16,8 @@ pub record IsFirstRepeated (rules : List Rule) (index : ℕ) : Type 0 where
   pub repeated : IsSomeAnd (slice_get rules index) (λ rule. Contains (map (λ r. r.place) (take index rules)) rule.place)
   pub first : HaveDistinctPlaces (take index rules)
 
--- the rule for a slot, and for the frame that it carries with the number of its attempt: that for the slot is used
--- alone, and without one that for the attempt
+-- the rule for a slot, and for the frame that it carries with the number of its attempt: that for
+-- the slot is used alone, and without one that for the attempt
 abbrev pub rule_for : List Rule → ℕ → Option (FrameParts × ℕ) → Option Rule
 rule_for rules slot None = slot_rule rules slot
 rule_for rules slot (Some carried) = option_or (slot_rule rules slot) (frame_rule rules (identity_of carried.0) carried.1)
@@ -30,8 +30,8 @@ names_frame x (FrameNth class number node nth) = same_identity (record { class =
 abbrev pub is_named : List Rule → Identity → Bool
 is_named rules x = list_any (λ rule. names_frame x rule.place) rules
 
--- the number that the next attempt to carry a frame gets: the attempts before it and one more, and 0 where no rule
--- names the frame
+-- the number that the next attempt to carry a frame gets: the attempts before it and one more, and
+-- 0 where no rule names the frame
 abbrev pub next_attempt : List Rule → List SlotNote → FrameParts → ℕ
 next_attempt rules trace f = if is_named rules (identity_of f) then attempts (identity_of f) trace + 1 else 0
 

@@ -15,8 +15,9 @@ use Rattle.can_fault.specs.Window.{IsNumbered, error_places}
 abbrev pub is_partial_slot : SlotNote → Bool
 is_partial_slot note = carried (λ f. true) note && is_partial note.verdict
 
--- what a tally keeps: of the slots noted their number, that of the Partial ones and the first break, and while there
--- is none how many Partial slots each frame met, and the newest slots of errors. `rules` is the room for Partial slots
+-- what a tally keeps: of the slots noted their number, that of the Partial ones and the first
+-- break, and while there is none how many Partial slots each frame met, and the newest slots of
+-- errors. `rules` is the room for Partial slots
 pub record TallyParts : Type 0 where
   pub params : Parameters
   pub rules : ℕ

@@ -15,7 +15,8 @@ parts_of t = record {
   recent = t.breaks.window.recent;
 }
 
--- the limits are those of the parameters, there is room for each rule, and each count stands for a Partial slot
+-- the limits are those of the parameters, there is room for each rule, and each count stands for a
+-- Partial slot
 pub record IsSound (t : Inside) : Type 0 where
   pub omit : t.breaks.omit ≡ t.params.omit
   pub errors : t.breaks.window.errors ≡ t.params.errors

@@ -1,4 +1,5 @@
--- Identifiers and keys tell class, number, node and incarnation, and order frames by them, if these fit their fields.
+-- Identifiers and keys tell class, number, node and incarnation, and order frames by them, if these
+-- fit their fields.
 use Rattle.std.proofs.Common.{◌≡◌, ℕ, ◌+◌, ◌*◌, ◌^◌, ◌<◌, ◌↔◌, Bool, true, false, if◌then◌else◌, ap, sym, arith, inl, inr, ◌⊎◌}
 use Rattle.std.proofs.lemmas.Bool.{cases_order}
 use Rattle.cany_base.specs.declared.class.Class.{Class}

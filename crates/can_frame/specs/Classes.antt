@@ -18,7 +18,8 @@ shows_life Tot = true
 shows_life Rel = false
 shows_life Ed = false
 
--- whether a frame of the class tells of the site: who lives, who has failed, who asks to join or to leave, or a vector
+-- whether a frame of the class tells of the site: who lives, who has failed, who asks to join or to
+-- leave, or a vector
 abbrev pub is_of_site : Class → Bool
 is_of_site Accept = false
 is_of_site Rha = true

@@ -1,5 +1,5 @@
-//! What the program says on standard error: one line, where the status is neither that of a text that was written nor that of a
-//! refusal.
+//! What the program says on standard error: one line, where the status is neither that of a text
+//! that was written nor that of a refusal.
 use cany_command::MOST_TEXT_BYTES;
 use cany_command::status::{NO_MEMORY, OTHER_WORDS, READ_FAULT, TOO_LONG, WRITE_FAULT};
 use cany_crew::status::HELD;
@@ -10,7 +10,8 @@ const MOST_SHOWN_BYTES: usize = 40;
 
 pub(crate) const NOT_TEXT: &str = "canely: an argument is not valid UTF-8\n";
 
-/// Whether a line can repeat an argument: it is short, and has no control character that would end the line.
+/// Whether a line can repeat an argument: it is short, and has no control character that would end
+/// the line.
 fn is_plain(arg: &str) -> bool {
     arg.len() <= MOST_SHOWN_BYTES && arg.as_bytes().iter().all(is_shown)
 }

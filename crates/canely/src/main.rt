@@ -1,4 +1,5 @@
-//! The program `canely`: it gives its arguments to the call of the command that they name, and ends with that call's status.
+//! The program `canely`: it gives its arguments to the call of the command that they name, and ends
+//! with that call's status.
 #![tactic(auto)]
 
 mod complaint;
@@ -79,8 +80,8 @@ fn run_freely<R: Threads + Wait + Sync, S: Source, K: Sink>(
     }
 }
 
-/// Gives the arguments to the call of the command that the first of them names. Where it names none, the call for `replay`
-/// answers that.
+/// Gives the arguments to the call of the command that the first of them names. Where it names
+/// none, the call for `replay` answers that.
 fn command<R: Threads + Wait + Sync, K: Sink>(
     rt: &HostRuntime,
     threads: &R,
@@ -108,7 +109,8 @@ fn print(rt: &HostRuntime, text: &str) -> u8 {
     }
 }
 
-/// Does what the arguments say, and answers the status. The runtime is the one value that can make threads.
+/// Does what the arguments say, and answers the status. The runtime is the one value that can make
+/// threads.
 fn run<R: Threads + Wait + Sync>(rt: &HostRuntime, threads: &R, args: &[String]) -> u8 {
     match text_for(rt.alloc(), args) {
         Ok(Some(text)) => return print(rt, text.as_str()),

@@ -187,7 +187,8 @@ has-bits_where test (suc n) i = elim (cases_order i n) [
       ap (λ b. b == 1) none ∙ high_test i (suc n) (test i) above
 ]
 
--- the set of those where the test holds has the nodes, of those that there can be, at which it holds
+-- the set of those where the test holds has the nodes, of those that there can be, at which it
+-- holds
 pub has-those_where : (test : ℕ → Bool) (i : ℕ) → has (those_where test) i ≡ (nat_lt i most_nodes && test i)
 unfolding those_where
 has-those_where test i = has-bits_where test most_nodes i

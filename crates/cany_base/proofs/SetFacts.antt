@@ -1,4 +1,5 @@
--- Sets of nodes that are made of others: what they are, when two are equal, and that they have nodes below a bound alone.
+-- Sets of nodes that are made of others: what they are, when two are equal, and that they have
+-- nodes below a bound alone.
 use Rattle.std.specs.Cmp.{both_ways}
 use Rattle.std.specs.Prelude.{nat_lt}
 use Rattle.std.proofs.Common.{◌≡◌, ℕ, ◌<◌, ◌⊎◌, inl, inr, ◌==◌, ◌&&◌, ◌||◌, Bool, true, false, not, refl, ap, sym, ◌∙◌, subst}

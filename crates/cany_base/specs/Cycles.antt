@@ -2,7 +2,8 @@
 use Rattle.std.specs.Prelude.{ℕ, ◌/◌, ◌%◌, ◌==◌, ◌&&◌, Bool, nat_lt, nat_le}
 use Rattle.cany_base.specs.Params.{Parameters}
 
--- Cycle k starts at k times the length of a cycle. It has a start for k ≥ 1 alone: there is none at slot 0.
+-- Cycle k starts at k times the length of a cycle. It has a start for k ≥ 1 alone: there is none at
+-- slot 0.
 abbrev pub cycle_of : Parameters → ℕ → ℕ
 cycle_of p slot = slot / p.cycle
 

@@ -81,7 +81,8 @@ data_class service.Ed = Ed
 data_class service.Rel = Rel
 data_class service.Tot = Tot
 
--- class in bits 28 to 25, number and node in the fields of the format, the incarnation in bits 3 to 0
+-- class in bits 28 to 25, number and node in the fields of the format, the incarnation in bits 3 to
+-- 0
 abbrev pub identifier_of : Format → FrameParts → ℕ
 identifier_of format f =
     class_number f.class * 2 ^ 25 + f.number * 2 ^ (layout format).number_shift + f.node * 2 ^ (layout format).node_shift + f.inc

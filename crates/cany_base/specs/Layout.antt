@@ -1,4 +1,5 @@
--- The formats of a scenario: how many nodes there can be, and where number and node lie in an identifier.
+-- The formats of a scenario: how many nodes there can be, and where number and node lie in an
+-- identifier.
 use Rattle.std.specs.Prelude.{ℕ}
 use Rattle.cany_base.specs.declared.format.Format.{Format}
 use Rattle.cany_base.specs.declared.format.Format.TheVariants.{One, Two}

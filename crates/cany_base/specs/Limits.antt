@@ -68,12 +68,14 @@ abbrev pub greatest_slots : Format → ℕ
 greatest_slots One = 100000
 greatest_slots Two = most_slots
 
--- numbers of frames: the greatest that a fault rule may name in a format, which is the greatest of its identifiers
+-- numbers of frames: the greatest that a fault rule may name in a format, which is the greatest of
+-- its identifiers
 abbrev pub greatest_number : Format → ℕ
 greatest_number One = 65535
 greatest_number Two = 32767
 
--- attempts: the greatest number of an attempt that a fault rule may name; a run has no more attempts than slots
+-- attempts: the greatest number of an attempt that a fault rule may name; a run has no more
+-- attempts than slots
 abbrev pub greatest_attempt : Format → ℕ
 greatest_attempt format = greatest_slots format
 

@@ -1,4 +1,5 @@
--- A set of nodes: whether it has a node, the set of those where a test holds, and what sets make together.
+-- A set of nodes: whether it has a node, the set of those where a test holds, and what sets make
+-- together.
 use Rattle.std.specs.Prelude.{ℕ, zero, suc, ◌+◌, ◌^◌, ◌<◌, ◌==◌, ◌&&◌, ◌||◌, not, Bool, List, count_by, IsTrue, if◌then◌else◌}
 use Rattle.std.specs.Int.{bit_at}
 use Rattle.std.specs.List.{range_with_len}

@@ -73,7 +73,8 @@ first_fault p =
     else if nat_lt p.cycle p.confirm then fault Confirm p.cycle
     else Ok tt
 
--- the parameters of so many nodes and so many slots where a text gives no others: the derived ones have their least values
+-- the parameters of so many nodes and so many slots where a text gives no others: the derived ones
+-- have their least values
 abbrev pub default_parameters_of : (format : Format) (nodes slots : ℕ) → Parameters
 default_parameters_of format nodes slots =
     let bound = least_bound nodes 0 2 in

@@ -33,8 +33,8 @@ padded bytes = record {
 abbrev pub row_of : List ℕ → List ℕ
 row_of bytes = all_bytes (padded bytes)
 
--- The bytes give the payload back. This lemma stands here and not in `proofs/`, since the type's clause `inverse_ok` cites it and
--- a clause of the code sees `specs/` alone.
+-- The bytes give the payload back. This lemma stands here and not in `proofs/`, since the type's
+-- clause `inverse_ok` cites it and a clause of the code sees `specs/` alone.
 
 -- what is cut off was 0
 byte_back : (p : Inside) (i : ℕ) → IsPadded p → slice_index (bytes_of p) i ≡ slice_index (all_bytes p) i

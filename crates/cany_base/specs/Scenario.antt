@@ -22,9 +22,11 @@ pub record ScenarioParts : Type 0 where
   pub leaves : List NodeAsk
   -- the nodes that start again, each at the end of its slot if it is stopped then
   pub restarts : List NodeAsk
-  -- The first slot whose scripted asks are made: 0 in a scenario as it is read, later in one as a restarted node follows it.
+  -- The first slot whose scripted asks are made: 0 in a scenario as it is read, later in one as a
+  -- restarted node follows it.
   pub from : ℕ
-  -- the number of the incarnation that follows it, which some of its frames tell: 0 in a scenario as it is read
+  -- the number of the incarnation that follows it, which some of its frames tell: 0 in a scenario
+  -- as it is read
   pub inc : ℕ
   pub journal : Option (List Step)
 

@@ -18,7 +18,8 @@ pub enum Action {
     Enter(LogEntry),
 }
 
-/// The actions of a turn, in the order in which they are done. Their memory is all taken when the list is built.
+/// The actions of a turn, in the order in which they are done. Their memory is all taken when the
+/// list is built.
 #[derive(Drop)]
 pub struct Actions {
     list: BoundedVec<Action>,

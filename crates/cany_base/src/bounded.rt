@@ -5,8 +5,8 @@ use crate::memory::Memory;
 use std::alloc::Global;
 use std::marker::Model;
 
-/// A list whose memory is all taken when it is built: it holds at most `room` items, and no call after `build`
-/// takes memory.
+/// A list whose memory is all taken when it is built: it holds at most `room` items, and no call
+/// after `build` takes memory.
 #[derive(Drop)]
 pub struct BoundedVec<T> {
     items: Vec<T>,

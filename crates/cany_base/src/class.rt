@@ -13,7 +13,8 @@ pub enum Class {
     Join,
     /// The node asks to be no longer a member, in a membership cycle.
     Leave,
-    /// The origin of a RELCAN message confirms it: number and node are its sequence number and its origin.
+    /// The origin of a RELCAN message confirms it: number and node are its sequence number and its
+    /// origin.
     Confirm,
     /// The data of a TOTCAN message: number and node are its sequence number and its origin.
     Tot,

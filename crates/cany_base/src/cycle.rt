@@ -1,4 +1,5 @@
-//! The slots of a membership cycle. It starts at a multiple of its length, and there is none that starts at slot 0.
+//! The slots of a membership cycle. It starts at a multiple of its length, and there is none that
+//! starts at slot 0.
 
 ghost use Rattle.std.specs.Prelude.{◌≡◌, ◌<◌};
 ghost use Rattle.cany_base.specs.Cycles.{cycle_of, is_end, is_exchange, is_start};
@@ -24,7 +25,8 @@ pub fn is_start(params: &Params, slot: Slot) -> bool
     slot % params.cycle == 0 && 0 < slot / params.cycle
 }
 
-/// Whether vectors are exchanged in the slot: it is one of as many after the start of a cycle as the bound has.
+/// Whether vectors are exchanged in the slot: it is one of as many after the start of a cycle as
+/// the bound has.
 pub fn is_exchange(params: &Params, slot: Slot) -> bool
     requires { 0 < params.now.cycle }
     ensures { result ≡ is_exchange params.now slot }

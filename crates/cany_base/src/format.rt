@@ -3,7 +3,8 @@ ghost use Rattle.cany_base.specs.Layout.{format_number, layout};
 
 use crate::limits::MOST_NODES;
 
-/// The format of a scenario, which fixes how many nodes there can be and how wide the fields of an identifier are.
+/// The format of a scenario, which fixes how many nodes there can be and how wide the fields of an
+/// identifier are.
 #[derive(Clone, Copy, Debug, PartialEq, Eq)]
 pub enum Format {
     One,

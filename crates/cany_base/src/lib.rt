@@ -1,4 +1,5 @@
-//! The plain types that every layer shares: nodes and sets of nodes, frames, notices, scenarios and their parameters.
+//! The plain types that every layer shares: nodes and sets of nodes, frames, notices, scenarios and
+//! their parameters.
 #![tactic(auto)]
 
 mod actions;

@@ -1,4 +1,5 @@
-//! The limits of scenarios, texts and reports: the numbers of `specs/Limits.antt`, in the types in which code uses them.
+//! The limits of scenarios, texts and reports: the numbers of `specs/Limits.antt`, in the types in
+//! which code uses them.
 
 ghost use Rattle.std.specs.Prelude.{◌≡◌};
 ghost use Rattle.cany_base.specs.Limits as limit;
@@ -8,8 +9,8 @@ use crate::format::Format;
 /// The most nodes of a bus, in any format.
 pub const MOST_NODES: u8 = 64;
 
-/// The greatest error counter with which a node still runs, in errors. Above it a controller of the CAN Specification
-/// (2.0 Part B, 8) is error passive, and a node of this project stops.
+/// The greatest error counter with which a node still runs, in errors. Above it a controller of the
+/// CAN Specification (2.0 Part B, 8) is error passive, and a node of this project stops.
 pub const GREATEST_ERROR_COUNTER: u32 = 127;
 
 /// The most scripted sends of a scenario, by the form of its text.
@@ -27,8 +28,8 @@ pub const MOST_LEAVES: usize = 1_000;
 /// The most restart entries of a scenario.
 pub const MOST_RESTARTS: usize = 64;
 
-/// The most restart entries of one node: with the incarnation that it opens with, a node has 16 at most, as many as four
-/// bits of the identifier can number.
+/// The most restart entries of one node: with the incarnation that it opens with, a node has 16 at
+/// most, as many as four bits of the identifier can number.
 pub const MOST_RESTARTS_OF_NODE: usize = 15;
 
 /// The greatest `lag`, in unread notices.
@@ -40,11 +41,12 @@ pub const GREATEST_OMIT: u64 = 8;
 /// The greatest `errors`, in Lost or Partial slots of a window.
 pub const GREATEST_ERRORS: u64 = 1_000;
 
-/// The greatest `bound`, `cycle`, `life`, `silence` or `confirm` that a scenario text may give, in slots.
+/// The greatest `bound`, `cycle`, `life`, `silence` or `confirm` that a scenario text may give, in
+/// slots.
 pub const GREATEST_GIVEN: u64 = 1_000_000;
 
-/// The greatest value, in slots, of one of these where the text leaves it to its default. A default is computed from
-/// values that the text gives, so it may exceed `GREATEST_GIVEN`.
+/// The greatest value, in slots, of one of these where the text leaves it to its default. A default
+/// is computed from values that the text gives, so it may exceed `GREATEST_GIVEN`.
 pub const GREATEST_DEFAULT: u64 = 4_000_000;
 
 /// How many numbers frames of a run can have, in any format: each is below this.
@@ -56,7 +58,8 @@ pub const MOST_SLOTS: u64 = 400_000;
 /// The most bytes of a scenario text.
 pub const MOST_TEXT_BYTES: usize = 33_554_432;
 
-/// The most bytes of a report line, its newline counted: the length of the buffer in which a line is made.
+/// The most bytes of a report line, its newline counted: the length of the buffer in which a line
+/// is made.
 pub const MOST_LINE_BYTES: usize = 1_024;
 
 /// The length of the longest run of a format, in slots.
@@ -79,7 +82,8 @@ pub fn greatest_number(format: Format) -> u64
     }
 }
 
-/// The greatest attempt that a fault rule of a format may name, counted from 1: a run has no more attempts than slots.
+/// The greatest attempt that a fault rule of a format may name, counted from 1: a run has no more
+/// attempts than slots.
 pub fn greatest_attempt(format: Format) -> u64
     ensures { result ≡ limit.greatest_attempt format }
 {

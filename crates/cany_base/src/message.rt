@@ -27,7 +27,8 @@ impl Service {
     }
 }
 
-/// Names a message: its origin, and its place among the messages of that origin, counted from 0 over all services.
+/// Names a message: its origin, and its place among the messages of that origin, counted from 0
+/// over all services.
 #[derive(Clone, Copy, Debug, PartialEq, Eq)]
 pub struct MsgKey {
     pub origin: NodeId,
@@ -43,8 +44,8 @@ pub struct SendAsk {
     pub payload: Payload,
 }
 
-/// A scripted join or leave, for which the node asks in its turn of `slot`; or a restart entry, by which the node starts again at
-/// the end of `slot`, if it is stopped.
+/// A scripted join or leave, for which the node asks in its turn of `slot`; or a restart entry, by
+/// which the node starts again at the end of `slot`, if it is stopped.
 #[derive(Clone, Copy, Debug)]
 pub struct NodeAsk {
     pub slot: Slot,

@@ -1,6 +1,7 @@
 use crate::frame::Frame;
 
-/// A number of a bus slot, counted from 0. One slot is one attempt to carry a frame, or one idle gap.
+/// A number of a bus slot, counted from 0. One slot is one attempt to carry a frame, or one idle
+/// gap.
 pub type Slot = u64;
 
 /// What one slot gave one node.
@@ -10,8 +11,8 @@ pub struct Notice {
     pub kind: NoticeKind,
 }
 
-/// What a node learns of a slot: no frame, a frame that it accepted, the success of its own transmission, or an error or a
-/// rejected frame.
+/// What a node learns of a slot: no frame, a frame that it accepted, the success of its own
+/// transmission, or an error or a rejected frame.
 #[derive(Clone, Copy, Debug)]
 pub enum NoticeKind {
     Idle,

@@ -54,7 +54,8 @@ pub enum ParamName {
     Confirm,
 }
 
-/// The first formula that fails, by the parameter that it bounds. `needed` is the least value that it allows, and for
+/// The first formula that fails, by the parameter that it bounds. `needed` is the least value that
+/// it allows, and for
 /// `Confirm` the greatest.
 #[derive(Clone, Copy, Debug, PartialEq, Eq, Error)]
 #[error("{which:?} needs {needed}")]
@@ -80,8 +81,9 @@ impl Params {
         Params::with_defaults_of(Format::One, nodes, slots)
     }
 
-    /// The parameters of so many nodes and so many slots where a scenario text gives no others: `lag` 0, `omit` 1, `errors`
-    /// 2, `confirm` 10, and the least legal `bound`, `cycle`, `life` and `silence`.
+    /// The parameters of so many nodes and so many slots where a scenario text gives no others:
+    /// `lag` 0, `omit` 1, `errors` 2, `confirm` 10, and the least legal `bound`, `cycle`, `life`
+    /// and `silence`.
     pub fn with_defaults_of(format: Format, nodes: u8, slots: u64) -> Params
         requires nodes { (2 ≤ nodes) × (nodes ≤ (layout format).nodes) }
         requires slots { (1 ≤ slots) × (slots ≤ limit.greatest_slots format) }
@@ -106,8 +108,8 @@ impl Params {
         }
     }
 
-    /// Checks the formulas in their order: those of the bound, the cycle, the life interval, the silence limit and the
-    /// confirm timer.
+    /// Checks the formulas in their order: those of the bound, the cycle, the life interval, the
+    /// silence limit and the confirm timer.
     pub fn check(&self) -> Result<(), ParamFault>
         ensures first { result ≡ first_fault self.now }
         ensures ok { IsOk result ↔ MeetsFormulas self.now }

@@ -3,7 +3,8 @@ use crate::node::NodeId;
 use crate::node_set::NodeSet;
 use crate::notice::Slot;
 
-/// What the fault script says of a slot that carries a frame. The set has the receivers that reject the frame.
+/// What the fault script says of a slot that carries a frame. The set has the receivers that reject
+/// the frame.
 #[derive(Clone, Copy, Debug)]
 pub enum Verdict {
     /// All receivers accept the frame, and the senders see success.

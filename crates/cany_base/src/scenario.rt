@@ -12,8 +12,8 @@ use crate::step::Step;
 use std::alloc::Global;
 use std::marker::Model;
 
-/// What a run is made from: the parameters, view 0, the scripted asks, the fault rules, the restarts, and the journal if one
-/// is given.
+/// What a run is made from: the parameters, view 0, the scripted asks, the fault rules, the
+/// restarts, and the journal if one is given.
 pub struct Scenario {
     params: Params,
     members: NodeSet,
@@ -121,7 +121,8 @@ impl Scenario {
     pub fn params(&self) -> &Params
         ensures params { result.now ≡ self.now.params }
         ensures legal { IsLegalScenario self.now }
-        // Each scripted ask is made: it is an incarnation of a restarted node that makes none before its first slot.
+        // Each scripted ask is made: it is an incarnation of a restarted node that makes none
+        // before its first slot.
         ensures whole { self.now.from ≡ 0 }
         // So is a number above 0.
         ensures opening { self.now.inc ≡ 0 }
@@ -178,8 +179,8 @@ impl Scenario {
         self.leaves.as_slice()
     }
 
-    /// The nodes that start again, in file order: at the end of its slot the node of an entry starts again, if it is stopped
-    /// then.
+    /// The nodes that start again, in file order: at the end of its slot the node of an entry
+    /// starts again, if it is stopped then.
     pub fn restarts(&self) -> &[NodeAsk]
         ensures { result.now ≡ self.now.restarts }
     {

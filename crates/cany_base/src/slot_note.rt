@@ -3,7 +3,8 @@ use crate::node_set::NodeSet;
 use crate::notice::Slot;
 use crate::rule::Verdict;
 
-/// What happened on the bus in one slot. For an idle slot the verdict is `Clean`, and nobody sent or accepted a frame.
+/// What happened on the bus in one slot. For an idle slot the verdict is `Clean`, and nobody sent
+/// or accepted a frame.
 #[derive(Clone, Copy, Debug)]
 pub struct SlotNote {
     pub slot: Slot,

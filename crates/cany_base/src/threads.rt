@@ -1,5 +1,5 @@
-//! Each type that a world, a seat or a worker holds may move to another thread and be shared by threads, as the bounds below
-//! show.
+//! Each type that a world, a seat or a worker holds may move to another thread and be shared by
+//! threads, as the bounds below show.
 
 use crate::actions::Actions;
 use crate::bounded::BoundedVec;

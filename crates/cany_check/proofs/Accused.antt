@@ -1,5 +1,6 @@
--- Nobody is accused in the account of a run exactly where no log of a correct node has a failure entry of one that ran all the time; and in
--- a run within the fault hypothesis of a scenario without restart entries none has one of a node that runs.
+-- Nobody is accused in the account of a run exactly where no log of a correct node has a failure
+-- entry of one that ran all the time; and in a run within the fault hypothesis of a scenario
+-- without restart entries none has one of a node that runs.
 use Rattle.std.proofs.Common.{◌≡◌, ℕ, ◌↔◌, true, false, List, [], ◌∷◌, ◌++◌, map, refl, ap, sym, subst, ◌∙◌, inl, inr}
 use Rattle.std.specs.Prelude.{min, max, filter, option_map, Some, None}
 use Rattle.std.specs.List.{AllByRecursion, flat_map, fold, list_any}

@@ -1,4 +1,5 @@
--- Counts and slots of attempts: the frames that are entered, one more slot, and what they say of the last attempt.
+-- Counts and slots of attempts: the frames that are entered, one more slot, and what they say of
+-- the last attempt.
 use Rattle.std.proofs.Common.{◌≡◌, ℕ, ◌+◌, ◌^◌, ◌<◌, ◌≤◌, ◌==◌, ◌&&◌, ◌||◌, Bool, true, false, List, [], ◌∷◌, ◌++◌, Option, Some, None, length, reverse, take, get_or, refl, ap, sym, ◌∙◌, arith, inl, inr}
 use Rattle.std.specs.Prelude.{if◌then◌else◌, nat_lt}
 use Rattle.std.specs.BTreeMap.{BTreeMap, get, is_at}

@@ -1,5 +1,5 @@
--- The logs of the correct nodes in the account of a run: each is the log of a node that runs, with the slot since which it takes part,
--- and each node that runs has one.
+-- The logs of the correct nodes in the account of a run: each is the log of a node that runs, with
+-- the slot since which it takes part, and each node that runs has one.
 use Rattle.std.proofs.Common.{◌≡◌, ℕ, zero, suc, ◌+◌, ◌<◌, ◌≤◌, ◌==◌, ◌&&◌, Bool, true, List, [], ◌∷◌, length, refl, ap, subst, ◌∙◌, arith, inl, inr}
 use Rattle.std.specs.Prelude.{filter, option_map, unwrap_or, Some}
 use Rattle.std.specs.List.{AllByRecursion, range_with_len}

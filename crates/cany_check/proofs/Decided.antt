@@ -1,4 +1,5 @@
--- What the tests of an account decide of a run: that a node has delivered a message, that it knows a sign, and that a set is empty.
+-- What the tests of an account decide of a run: that a node has delivered a message, that it knows
+-- a sign, and that a set is empty.
 use Rattle.std.proofs.Common.{◌≡◌, ℕ, ◌<◌, ◌==◌, ◌&&◌, true, false, nat_lt, List, [], ◌∷◌, refl, ap, sym, subst, ◌∙◌, inl, inr, Contains}
 use Rattle.std.specs.List.{list_any}
 use Rattle.std.proofs.lemmas.Bool.{and_from, and_parts, cases_Bool, eq-eqb, eqb-true, false≢true, lt-ltb}

@@ -1,4 +1,5 @@
--- When a message and a failure sign of an account are apart or open, and what the sets of those that have it and lack it say.
+-- When a message and a failure sign of an account are apart or open, and what the sets of those
+-- that have it and lack it say.
 use Rattle.std.proofs.Common.{◌≡◌, ℕ, ◌<◌, ◌&&◌, ◌||◌, Bool, true, false, not, List, [], ◌∷◌, refl, ap, sym, ◌∙◌, ◌⊎◌, inl, inr}
 use Rattle.std.specs.Prelude.{filter, if◌then◌else◌}
 use Rattle.std.specs.List.{AllByRecursion}

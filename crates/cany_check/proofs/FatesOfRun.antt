@@ -1,5 +1,6 @@
--- The fates in the account of a run are what is promised: a message is open exactly where it is not settled, and apart exactly where the
--- run does not agree on it; a sign is apart exactly where the run does not agree on it.
+-- The fates in the account of a run are what is promised: a message is open exactly where it is not
+-- settled, and apart exactly where the run does not agree on it; a sign is apart exactly where the
+-- run does not agree on it.
 use Rattle.std.proofs.Common.{◌≡◌, ℕ, ◌<◌, ◌≤◌, ◌↔◌, ◌==◌, ◌&&◌, ◌||◌, Bool, true, false, not, List, [], ◌∷◌, refl, ap, sym, subst, ◌∙◌, arith, ◌⊎◌, inl, inr, Contains}
 use Rattle.std.specs.Prelude.{filter, nat_lt, is_none, Option, Some, None}
 use Rattle.std.specs.List.{AllByRecursion, flat_map, list_any}

@@ -1,4 +1,5 @@
--- Worked rows of integrity, on accounts that no run has: which entry of a log is the first wrong one.
+-- Worked rows of integrity, on accounts that no run has: which entry of a log is the first wrong
+-- one.
 use Rattle.std.specs.Prelude.{◌≡◌, ℕ, true, false, Bool, List, [], ◌∷◌, Option, Some, None, map, option_map, refl}
 use Rattle.cany_base.specs.declared.log_entry.LogEntry.{LogEntry}
 use Rattle.cany_base.specs.declared.log_entry.LogEntry.TheVariants.{Deliver, Failed, View}
@@ -36,12 +37,14 @@ wrong_place : Bool → List LogEntry → Option ℕ
 unfolding first_wrong first_wrong_of same_class is_service
 wrong_place runs entries = option_map (λ e. e.place) (wrong_entry (account_with runs entries))
 
--- a delivery since the message was sent, a failure of a node there in a cycle that had begun, and the view of the slot's cycle
+-- a delivery since the message was sent, a failure of a node there in a cycle that had begun, and
+-- the view of the slot's cycle
 nothing_is_wrong : wrong_place true (delivery 1 7 ∷ Failed 73 2 1 ∷ View 108 1 nobody ∷ []) ≡ None
 unfolding wrong_place account_with delivery
 nothing_is_wrong = refl
 
--- one delivery too many, one before it was sent, another payload, another service, a message that is none
+-- one delivery too many, one before it was sent, another payload, another service, a message that
+-- is none
 wrong_deliveries : map (wrong_place true) (
     (delivery 1 7 ∷ delivery 2 7 ∷ []) ∷ (delivery 0 7 ∷ []) ∷ (delivery 1 8 ∷ [])
     ∷ (Deliver 1 Rel (record { origin = 0; seq = 0 }) (7 ∷ []) ∷ []) ∷ (Deliver 1 Ed (record { origin = 0; seq = 1 }) (7 ∷ []) ∷ []) ∷ [])

@@ -1,4 +1,5 @@
--- What nodes delivered of the messages that were carried: the items of a log, their keys, and what is left of them from a slot on.
+-- What nodes delivered of the messages that were carried: the items of a log, their keys, and what
+-- is left of them from a slot on.
 use Rattle.std.proofs.Common.{◌≡◌, ℕ, ◌≤◌, Bool, true, false, List, [], ◌∷◌, ◌++◌, map, refl, ap, sym, subst, ◌∙◌, arith, inl, inr}
 use Rattle.std.specs.Prelude.{filter, filter_map, find, if◌then◌else◌, nat_le, option_map, option_to_list, Option, None, Some}
 use Rattle.std.specs.List.{AllByRecursion, cons_option, flat_map}
@@ -126,7 +127,8 @@ module _ (messages : List MessageRecord) where
       by_first None = refl
       by_first (Some item) = cut_append t (item ∷ []) (items_in messages node entries)
 
--- what the log delivered, without what was first carried before a slot or never, are its items from the slot on
+-- what the log delivered, without what was first carried before a slot or never, are its items from
+-- the slot on
 module _ (a : AccountParts) (t : ℕ) (node : ℕ) where
   one_entry : (entry : LogEntry) → filter (is_of_slots_from a t) (delivery_in entry) ≡ map delivery (cut t (option_to_list (item_in a.messages node entry)))
   one_entry (Failed slot failed cycle) = refl

@@ -1,4 +1,5 @@
--- The frames that the entries of a scenario name: each has its count, and each cycle of an ask a number.
+-- The frames that the entries of a scenario name: each has its count, and each cycle of an ask a
+-- number.
 use Rattle.std.proofs.Common.{◌≡◌, ℕ, ◌<◌, ◌||◌, Bool, true, false, List, [], ◌∷◌, length, get_or, All, refl, ap, sym, subst, ◌∙◌}
 use Rattle.std.proofs.lemmas.Bool.{false≢true}
 use Rattle.std.proofs.lemmas.List.Elements.{All-weaker}

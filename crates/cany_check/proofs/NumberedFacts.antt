@@ -1,4 +1,5 @@
--- The messages of an account are numbered: each key stands at one place. And those of a scenario are.
+-- The messages of an account are numbered: each key stands at one place. And those of a scenario
+-- are.
 use Rattle.std.proofs.Common.{◌≡◌, ℕ, zero, suc, ◌+◌, ◌<◌, ◌≤◌, ◌==◌, Bool, true, List, [], ◌∷◌, map, take, count_by, cond, refl, ap, sym, ◌∙◌, arith, inl, inr}
 use Rattle.std.specs.Prelude.{slice_get, Some}
 use Rattle.std.proofs.lemmas.Bool.{cases_lt, eq-eqb}

@@ -1,4 +1,5 @@
--- The places of messages by their keys: what a table of them has, and that it finds the first message of a key.
+-- The places of messages by their keys: what a table of them has, and that it finds the first
+-- message of a key.
 use Rattle.std.proofs.Common.{◌≡◌, ℕ, zero, suc, ◌+◌, ◌<◌, ◌==◌, inl, inr, Bool, true, false, List, [], ◌∷◌, ◌++◌, length, take, count_by, cond, refl, ap, sym, subst, ◌∙◌, arith, append_assoc}
 use Rattle.std.specs.Prelude.{if◌then◌else◌, Option, None, Some, IfSome, find, is_some, nat_lt, replicate, slice_get, slice_index_or, slice_set, Vec}
 use Rattle.std.specs.Borrow.{Bor}

@@ -1,4 +1,5 @@
--- The incarnations of a node by how many began after them, and what one after another of them says of all.
+-- The incarnations of a node by how many began after them, and what one after another of them says
+-- of all.
 use Rattle.std.proofs.Common.{◌≡◌, ℕ, zero, suc, ◌+◌, ◌≤◌, ◌==◌, Bool, true, false, List, [], ◌∷◌, length, drop, refl, ap, sym, ◌∙◌, arith}
 use Rattle.std.specs.Prelude.{find, option_map, slice_get, IsSomeAnd, Option, Some, None}
 use Rattle.std.specs.List.{list_any}

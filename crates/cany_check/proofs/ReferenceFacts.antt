@@ -124,7 +124,8 @@ module _ (a : AccountParts) where
 
   -- ---- where the items come from
 
-  -- the item was appended by one of these nodes, and those before it had by then delivered no more than what stands before the item
+  -- the item was appended by one of these nodes, and those before it had by then delivered no more
+  -- than what stands before the item
   record IsBrought (done : List LogParts) (front : List Item) (item : Item) : Type 0 where
     before : List LogParts
     by : LogParts

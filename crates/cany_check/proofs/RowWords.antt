@@ -48,7 +48,8 @@ use Rattle.cany_check.specs.Words.{nodes_of}
 pub use Rattle.cany_model.proofs.RowWords.{set}
 unfoldable pub use Rattle.cany_model.proofs.RowWords.{ask as asks, frame_rule, send, slot_rule}
 
--- three nodes, which are members, at lag 0, one omission and two errors, with everything else by default
+-- three nodes, which are members, at lag 0, one omission and two errors, with everything else by
+-- default
 unfoldable pub three : ℕ → List SendAsk → List Rule → ScenarioParts
 unfolding scenario_of
 three slots sends rules = scenario_of (default_parameters 3 slots) 7 sends rules []
@@ -110,7 +111,8 @@ found_in sc s = found_with sc s (account_of sc s)
 unfoldable pub found_by : ScenarioParts → List Step → Found
 found_by sc journal = found_in sc (run sc journal)
 
--- After so many rounds. The round robin journal has the steps of the states to which its rounds lead, so the run of it computes each of them twice.
+-- After so many rounds. The round robin journal has the steps of the states to which its rounds
+-- lead, so the run of it computes each of them twice.
 unfoldable pub found_after : ScenarioParts → ℕ → RunState → Found
 found_after sc zero s = found_in sc s
 found_after sc (suc n) s = found_after sc n (run_from sc s (round sc s))

@@ -1,4 +1,5 @@
--- A table of signs by their keys ascends as the signs of an account do; and what a slot makes of it.
+-- A table of signs by their keys ascends as the signs of an account do; and what a slot makes of
+-- it.
 use Rattle.std.proofs.Common.{Ordering, Less, Equal, Greater, ◌≡◌, ℕ, ◌<◌, ◌⊎◌, ◌==◌, ◌&&◌, Bool, true, false, nat_lt, List, [], ◌∷◌, ◌++◌, map, refl, ap, sym, subst, ◌∙◌, arith, inl, inr}
 use Rattle.std.specs.Prelude.{Some, None}
 use Rattle.std.specs.BTreeMap.{insert_entry, is_at}

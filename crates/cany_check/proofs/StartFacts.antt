@@ -1,5 +1,5 @@
--- The incarnations of a run take part since slots that are not far beyond those that ran, and the entries of their logs are of slots
--- that ran.
+-- The incarnations of a run take part since slots that are not far beyond those that ran, and the
+-- entries of their logs are of slots that ran.
 use Rattle.std.proofs.Common.{◌≡◌, ℕ, ◌+◌, ◌-◌, ◌<◌, ◌≤◌, ◌==◌, Bool, List, [], ◌∷◌, length, drop, refl, ap, sym, subst, arith, inl, inr, length-drop}
 use Rattle.std.specs.Prelude.{Option, Some, None, find, unwrap_or}
 use Rattle.std.specs.List.{AllByRecursion}

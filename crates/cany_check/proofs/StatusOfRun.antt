@@ -1,4 +1,5 @@
--- The status of the verdict on a run: 9 exactly where the promise is not kept, 10 exactly where it is and something is open.
+-- The status of the verdict on a run: 9 exactly where the promise is not kept, 10 exactly where it
+-- is and something is open.
 use Rattle.std.proofs.Common.{◌≡◌, ℕ, ◌≤◌, ◌↔◌, ◌⊎◌, ◌==◌, Bool, true, false, List, [], ◌∷◌, map, refl, ap, sym, subst, ◌∙◌, arith, inl, inr, Contains}
 use Rattle.std.specs.Prelude.{filter, is_some, if◌then◌else◌, Option, Some, None}
 use Rattle.std.specs.List.{AllByRecursion, flat_map, list_any}

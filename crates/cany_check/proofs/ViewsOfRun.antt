@@ -1,4 +1,5 @@
--- No number is apart in the account of a run exactly where correct nodes hold one view of each number.
+-- No number is apart in the account of a run exactly where correct nodes hold one view of each
+-- number.
 use Rattle.std.proofs.Common.{◌≡◌, ℕ, ◌↔◌, ◌==◌, true, false, not, List, [], ◌∷◌, map, refl, ap, sym, subst, ◌∙◌, arith, inl, inr, Contains}
 use Rattle.std.specs.Prelude.{find, nat_lt, option_map, Option, Some, None}
 use Rattle.std.specs.List.{AllByRecursion, flat_map}

@@ -1,4 +1,5 @@
--- In the account of a run within the fault hypothesis no part of the promise is broken, but for accuracy.
+-- In the account of a run within the fault hypothesis no part of the promise is broken, but for
+-- accuracy.
 use Rattle.std.proofs.Common.{◌≡◌, ℕ, ◌≤◌, Bool, true, false, List, [], ◌∷◌, map, refl, ap, sym, subst, ◌∙◌, inl, inr, Contains}
 use Rattle.std.specs.Prelude.{filter, is_some, None, if◌then◌else◌}
 use Rattle.std.specs.List.{AllByRecursion, list_any}

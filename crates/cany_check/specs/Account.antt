@@ -1,4 +1,5 @@
--- The account of a run: what its messages, its logs and its failure signs came to. Verdicts are given of accounts alone.
+-- The account of a run: what its messages, its logs and its failure signs came to. Verdicts are
+-- given of accounts alone.
 use Rattle.std.specs.Prelude.{ℕ, ◌+◌, ◌==◌, ◌&&◌, ◌||◌, Bool, nat_lt, if◌then◌else◌, List, [], ◌∷◌, map, filter, Option, Some, None, unwrap_or}
 use Rattle.std.specs.List.{flat_map, range_with_len}
 use Rattle.std.specs.Option.{option_or}
@@ -22,8 +23,8 @@ use Rattle.cany_check.specs.declared.record.SignRecord.{SignRecord}
 use Rattle.cany_check.specs.declared.record.Slots.{Slots}
 use Rattle.cany_check.specs.InOrder.{ascending}
 
--- the log of an incarnation: its node, the slot since which it takes part, whether it is the present incarnation of a running
--- node, and its entries
+-- the log of an incarnation: its node, the slot since which it takes part, whether it is the
+-- present incarnation of a running node, and its entries
 pub record LogParts : Type 0 where
   pub node : ℕ
   pub from : ℕ
@@ -60,7 +61,8 @@ slots_of x trace = first_and_last (first_carried x trace) (last_carried x trace)
 
 -- ---- messages
 
--- whether the slot carried the data frame of the message, payload included, with its origin among the senders
+-- whether the slot carried the data frame of the message, payload included, with its origin among
+-- the senders
 abbrev pub sends_data : Message → SlotNote → Bool
 sends_data m note = carried (same_frame (data_frame m)) note && has note.senders m.origin
 

@@ -1,4 +1,5 @@
--- The lines of a verdict after its head: witnesses of what is broken, messages, failure signs, and entries that did nothing.
+-- The lines of a verdict after its head: witnesses of what is broken, messages, failure signs, and
+-- entries that did nothing.
 use Rattle.std.specs.Prelude.{ℕ, ◌+◌, Bool, if◌then◌else◌, List, [], ◌∷◌, ◌++◌, Option, Some, None, codes, decimal}
 use Rattle.std.specs.Option.{option_map_or}
 use Rattle.cany_base.specs.declared.message.Service.{Service}
@@ -45,7 +46,8 @@ slots_or_dash word (Some slots) = word ∷ decimal slots.first ∷ decimal slots
 
 -- ---- messages
 
--- how long the protocol of the service waits, at most, between a copy of a message and a timer or a closing of it
+-- how long the protocol of the service waits, at most, between a copy of a message and a timer or a
+-- closing of it
 abbrev pub wait : Parameters → Service → ℕ
 wait p by = if is_service by Tot then p.bound else p.confirm
 
@@ -53,7 +55,8 @@ wait p by = if is_service by Tot then p.bound else p.confirm
 abbrev pub last_copy : MessageRecord → ℕ
 last_copy m = option_map_or (λ slots. slots.last) m.carried m.slot
 
--- the last slot in which a timer or a closing that is ahead can be due, if the data frame is not carried again
+-- the last slot in which a timer or a closing that is ahead can be due, if the data frame is not
+-- carried again
 abbrev pub due_if_ahead : Parameters → MessageRecord → Option ℕ
 due_if_ahead p m = if is_nobody m.ahead then None else Some (last_copy m + wait p m.service)
 
@@ -72,7 +75,8 @@ message_fate_fields p m told Nobody = codes "none had" ∷ set_text told.had ∷
 message_fate_fields p m told Apart = apart_fields told
 message_fate_fields p m told Open = open_fields p m
 
--- the slots are those that carried its data frame, and those in which the nodes that have it delivered it
+-- the slots are those that carried its data frame, and those in which the nodes that have it
+-- delivered it
 unfoldable pub message_line : Parameters → MessageRecord → Told → List ℕ
 message_line p m told = line_of (
     codes "message" ∷ service_name m.service ∷ decimal m.key.origin ∷ decimal m.key.seq ∷ codes "slot" ∷ decimal m.slot
@@ -86,7 +90,8 @@ sign_fate_fields sign told Nobody = codes "none" ∷ []
 sign_fate_fields sign told Apart = apart_fields told
 sign_fate_fields sign told Open = codes "open waits" ∷ set_text sign.waits ∷ []
 
--- the slots are those that carried its frame, and those in which the nodes that know it came to know it
+-- the slots are those that carried its frame, and those in which the nodes that know it came to
+-- know it
 unfoldable pub sign_line : SignRecord → Told → List ℕ
 sign_line sign told = line_of (
     codes "sign" ∷ decimal sign.node ∷ decimal sign.cycle

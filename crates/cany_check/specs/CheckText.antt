@@ -25,7 +25,8 @@ message_lines a = map (λ m. message_line a.params m (message_told a m)) a.messa
 abbrev pub sign_lines : AccountParts → List (List ℕ)
 sign_lines a = map (λ sign. sign_line sign (sign_told a sign)) a.signs
 
--- of an account, where the run leaves the fault hypothesis first, and the entries of its scenario that did nothing
+-- of an account, where the run leaves the fault hypothesis first, and the entries of its scenario
+-- that did nothing
 unfoldable pub verdict_lines : AccountParts → Option Break → List Unused → List (List ℕ)
 verdict_lines a found idle =
     head_lines a found

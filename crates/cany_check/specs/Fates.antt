@@ -29,8 +29,8 @@ slots_where test logs = least_and_greatest (flat_map (λ log. map entry_slot (fi
 
 -- ---- a message
 
--- The fate, where these of the nodes that count have it and those lack it, and the origin counts or not. A message that nobody of
--- them has is apart too, if its origin is one of them.
+-- The fate, where these of the nodes that count have it and those lack it, and the origin counts or
+-- not. A message that nobody of them has is apart too, if its origin is one of them.
 abbrev pub fate_by : (settled : Bool) → (has lacks : Nodes) → (origin : Bool) → Fate
 fate_by settled has lacks origin =
     if not settled then Open

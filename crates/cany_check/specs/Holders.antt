@@ -17,8 +17,8 @@ counts_since since log = log.runs && option_map_or (λ slot. takes_part slot log
 abbrev pub tells_in : (LogEntry → Bool) → LogParts → Bool
 tells_in tells log = list_any tells log.entries
 
--- who has it by these logs: of those that count the nodes whose logs tell of it, the nodes of which some log does, and the slots
--- of the entries by which the logs of the former do
+-- who has it by these logs: of those that count the nodes whose logs tell of it, the nodes of which
+-- some log does, and the slots of the entries by which the logs of the former do
 unfoldable pub holders_in : (tells : LogEntry → Bool) (since : Option ℕ) → List LogParts → Holders
 holders_in tells since logs = record {
   has = nodes_of (filter (tells_in tells) (filter (counts_since since) logs));

@@ -15,9 +15,9 @@ use Rattle.cany_check.specs.Words.{correct, entry_slot, is_delivery}
 abbrev pub was_sent_by_then : LogEntry → MessageRecord → Bool
 was_sent_by_then entry m = is_delivery m entry && option_map_or (λ slot. nat_le slot (entry_slot entry)) m.sent false
 
--- Whether the entry, after these earlier ones of its log, is wrong: a delivery of a key that one of them delivers, or of what no
--- message is that was sent by then; a failure of a node that is not there, or of a cycle that had not begun; a view with a number
--- that is not the cycle of its slot.
+-- Whether the entry, after these earlier ones of its log, is wrong: a delivery of a key that one of
+-- them delivers, or of what no message is that was sent by then; a failure of a node that is not
+-- there, or of a cycle that had not begun; a view with a number that is not the cycle of its slot.
 abbrev pub is_wrong : AccountParts → List LogEntry → LogEntry → Bool
 is_wrong a earlier (Deliver slot service msg payload) =
     list_any (delivers_key msg) earlier || not (list_any (was_sent_by_then (Deliver slot service msg payload)) a.messages)

@@ -5,7 +5,8 @@ use Rattle.cany_base.specs.declared.log_entry.LogEntry.{LogEntry}
 use Rattle.cany_model.specs.Promises.Entries.{delivers_key}
 use Rattle.cany_check.specs.declared.record.MessageRecord.{MessageRecord}
 
--- a mark for each message is this number exactly where one of these entries delivers the key of the message, and none is above it
+-- a mark for each message is this number exactly where one of these entries delivers the key of the
+-- message, and none is above it
 pub record AreMarked (messages : List MessageRecord) (number : ℕ) (entries : List LogEntry) (marks : List ℕ) : Type 0 where
   pub count : length marks ≡ length messages
   pub exact : (k : ℕ) (m : MessageRecord) → slice_get messages k ≡ Some m → (slice_index marks k == number) ≡ list_any (delivers_key m.key) entries

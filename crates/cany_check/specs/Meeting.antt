@@ -16,7 +16,8 @@ entry_items messages log entry = cut log.from (option_to_list (item_in messages 
 abbrev pub ahead : ℕ → Cursor → List Item → List Item
 ahead from cursor reference = cut from (drop cursor.next reference)
 
--- After these items the comparison goes on: with whatever follows it comes to the same difference, and to the same list.
+-- After these items the comparison goes on: with whatever follows it comes to the same difference,
+-- and to the same list.
 pub record GoesOn (from : ℕ) (items : List Item) (old new : Cursor) (before after : List Item) : Type 0 where
   pub within : new.next ≤ length after
   pub behind : new.place ≤ new.next

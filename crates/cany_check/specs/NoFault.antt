@@ -1,5 +1,6 @@
--- No status of a verdict is one that a command answers where it does not succeed. This lemma stands here and not in `proofs/`,
--- since the command's clause `no_fault` cites it and a clause of the code sees `specs/` alone.
+-- No status of a verdict is one that a command answers where it does not succeed. This lemma stands
+-- here and not in `proofs/`, since the command's clause `no_fault` cites it and a clause of the
+-- code sees `specs/` alone.
 use Rattle.std.specs.Prelude.{ℕ}
 use Rattle.std.proofs.Common.{arith, inl, inr}
 use Rattle.cany_command.specs.Status.{IsNoFault}

@@ -17,8 +17,9 @@ use Rattle.cany_check.specs.OneOrder.{NobodyParts}
 abbrev pub StandsInNone : ScenarioParts → RunState → ℕ → Type 0
 StandsInNone scenario s r = (i : ℕ) → IsCorrect scenario s i → (slot cycle : ℕ) → Contains (log scenario s i) (Failed slot r cycle) → ⊥
 
--- Nothing of the promise is broken: the run agrees on each message and on each sign, no two correct nodes part, they hold one view of
--- each number, and nobody that ran all the time was taken for failed.
+-- Nothing of the promise is broken: the run agrees on each message and on each sign, no two correct
+-- nodes part, they hold one view of each number, and nobody that ran all the time was taken for
+-- failed.
 pub record KeepsPromise (scenario : ScenarioParts) (s : RunState) : Type 0 where
   pub agreement : (m : Message) → Contains (messages_of scenario.sends) m → IsAgreedOn scenario s m
   pub order : NobodyParts (account_of scenario s)

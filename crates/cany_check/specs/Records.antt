@@ -1,4 +1,5 @@
--- The records of messages and of failure signs while an account is made: what the slots that were gone over tell of them.
+-- The records of messages and of failure signs while an account is made: what the slots that were
+-- gone over tell of them.
 use Rattle.std.specs.Prelude.{◌<◌, ℕ, ◌&&◌, Bool, if◌then◌else◌, List, [], ◌∷◌, Option, Some, None}
 use Rattle.std.specs.List.{flat_map}
 use Rattle.std.specs.Option.{option_or}

@@ -1,4 +1,5 @@
--- One order, decided by one list of reference: what nodes delivered, one node after another, of the messages that were carried.
+-- One order, decided by one list of reference: what nodes delivered, one node after another, of the
+-- messages that were carried.
 use Rattle.std.specs.Prelude.{ℕ, ◌+◌, nat_le, if◌then◌else◌, List, [], ◌∷◌, ◌++◌, drop, filter, filter_map, find, length, Option, Some, None, option_map}
 use Rattle.std.specs.Option.{option_and_then, option_or}
 use Rattle.cany_base.specs.declared.log_entry.LogEntry.{LogEntry}
@@ -46,7 +47,8 @@ pub record Clash : Type 0 where
   pub here : Item
   pub there : Item
 
--- the first place at which both have an item and the items differ, where the first place is this one
+-- the first place at which both have an item and the items differ, where the first place is this
+-- one
 unfoldable pub clash : ℕ → List Item → List Item → Option Clash
 clash place [] there = None
 clash place (x ∷ here) [] = None
@@ -55,7 +57,8 @@ clash place (x ∷ here) (y ∷ there) = if same_key x.msg y.msg then clash (pla
 abbrev pub parting_at : Clash → Parting
 parting_at c = record { first = c.here.node; second = c.there.node; place = c.place; here = delivery c.here; there = delivery c.there }
 
--- the list of reference, of a node that takes part since this slot and delivered these: with what of it goes beyond the list
+-- the list of reference, of a node that takes part since this slot and delivered these: with what
+-- of it goes beyond the list
 abbrev pub with_items : ℕ → List Item → List Item → List Item
 with_items from items reference = reference ++ drop (length (cut from reference)) items
 

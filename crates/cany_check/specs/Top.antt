@@ -34,7 +34,8 @@ check_command = record {
   is_success = IsVerdict;
 }
 
--- what a status of success says of the scenario and of what the sink had taken before and has taken now
+-- what a status of success says of the scenario and of what the sink had taken before and has taken
+-- now
 pub record IsCheck (scenario : ScenarioParts) (given : ℕ) (old new : Option (List ℕ)) : Type 0 where
   pub written : Takes old (check_text scenario (journal_of scenario)) new
   pub promises : KeepsPromises scenario

@@ -60,7 +60,8 @@ missed_by (Some e) = From e.incarnation.from
 abbrev pub missed : RunState → ℕ → ℕ → Option NoAsk
 missed s slot i = if made_asks s slot i then None else Some (missed_by (find (read_notice slot) (incarnations s i)))
 
--- whether a later slot carried the frame by which a node asks to join or to leave in the cycle of this slot
+-- whether a later slot carried the frame by which a node asks to join or to leave in the cycle of
+-- this slot
 abbrev pub is_carried_later : ScenarioParts → RunState → Class → NodeAsk → Bool
 is_carried_later scenario s c ask =
     list_any (λ note. nat_lt ask.slot note.slot && carried (is_of (record { class = c; number = cycle_of scenario.params ask.slot; node = ask.node })) note) s.trace

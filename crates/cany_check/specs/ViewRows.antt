@@ -16,7 +16,8 @@ of_number number views = filter (λ v. v.number == number) views
 abbrev pub has_other_members : HeldView → HeldView → Bool
 has_other_members v w = not (same_members v.members w.members)
 
--- of these views of a number the first, and the first that has other members or, where none has, the first again
+-- of these views of a number the first, and the first that has other members or, where none has,
+-- the first again
 abbrev pub row_of : List HeldView → Option ViewParting
 row_of [] = None
 row_of (v ∷ views) = Some (as_parting v (unwrap_or (find (has_other_members v) views) v))

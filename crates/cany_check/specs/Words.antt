@@ -54,7 +54,8 @@ delivers m log = list_any (is_delivery m) log.entries
 
 -- ---- signs
 
--- whether the log is that of a node that takes part since the first slot that carried its frame, where there is one
+-- whether the log is that of a node that takes part since the first slot that carried its frame,
+-- where there is one
 abbrev pub takes_part_for : SignRecord → LogParts → Bool
 takes_part_for sign log = option_map_or (λ slots. takes_part slots.first log) sign.carried true
 

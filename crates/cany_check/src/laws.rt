@@ -1,5 +1,5 @@
-//! That the verdicts on the account of a run are those of the promise: laws of the definitions, each
-//! a function without a body whose clauses say it.
+//! That the verdicts on the account of a run are those of the promise: laws of the definitions,
+//! each a function without a body whose clauses say it.
 ghost use Rattle.std.specs.Prelude.{◌≡◌, ◌↔◌, ℕ, false, None, List, [], Contains};
 ghost use Rattle.cany_base.specs.declared.log_entry.LogEntry.TheVariants.{Failed};
 ghost use Rattle.cany_base.specs.declared.step.Step.{Step};

@@ -188,7 +188,8 @@ module _ {S K : Type 0} (command : CommandParts) (said : List (List ℕ)) (sourc
         complete_too_long = λ again still. past_line (command.words_refusal said) line _ some;
       }
 
-  -- there is no text: the source failed or has too many bytes, or there is no memory, of which words that are refused leave the last alone
+  -- there is no text: the source failed or has too many bytes, or there is no memory, of which
+  -- words that are refused leave the last alone
   pub textless : (answer : ℕ) → command.are_words said → IfSome (command.words_refusal said) (λ _. (answer ≡ NO_MEMORY) × (source.new ≡ source.old))
       → sink.new ≡ sink.old → (answer ≡ READ_FAULT) ⊎ (answer ≡ TOO_LONG) ⊎ (answer ≡ NO_MEMORY)
       → (answer ≡ READ_FAULT → HasRisen (source.faults source.old) (source.faults source.new))

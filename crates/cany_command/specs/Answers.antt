@@ -15,8 +15,8 @@ use Rattle.cany_text.specs.TomlKeys.{Read}
 abbrev pub RunText : Type 0
 RunText = ScenarioParts → List Step → List ℕ
 
--- what it writes for a scenario: of the run by the scenario's own journal or, where it has none, by its round robin journal; or
--- the line that refuses the journal
+-- what it writes for a scenario: of the run by the scenario's own journal or, where it has none, by
+-- its round robin journal; or the line that refuses the journal
 abbrev pub answer_for : RunText → ScenarioParts → List ℕ
 answer_for text scenario = option_map_or journal_refusal_line (own_fault scenario) (text scenario (journal_of scenario))
 
@@ -36,7 +36,8 @@ answer_by text choose bytes = answer_to text choose (scenario_of bytes)
 abbrev pub OfChosen : (ScenarioParts → Chosen) → List ℕ → (ScenarioParts → Type 0) → Type 0
 OfChosen choose bytes Fact = IsOkAnd (scenario_of bytes) (λ scenario. IsOkAnd (choose scenario) Fact)
 
--- what success says of the scenario that was run and of what the sink had taken before and has taken now
+-- what success says of the scenario that was run and of what the sink had taken before and has
+-- taken now
 pub record IsAnswered (text : RunText) (scenario : ScenarioParts) (old new : Option (List ℕ)) : Type 0 where
   -- all that the command writes of the run was written
   pub written : Takes old (text scenario (journal_of scenario)) new

@@ -31,7 +31,8 @@ pub record CommandParts : Type 1 where
 abbrev pub AreOnly : List ℕ → List (List ℕ) → Type 0
 AreOnly name said = said ≡ name ∷ []
 
--- the command of one word that refuses nothing of its own, runs what it reads, and has one status of success
+-- the command of one word that refuses nothing of its own, runs what it reads, and has one status
+-- of success
 abbrev pub one_word : List ℕ → RunText → CommandParts
 one_word name text = record {
   are_words = AreOnly name;
@@ -42,21 +43,24 @@ one_word name text = record {
   is_success = λ status. status ≡ DONE;
 }
 
--- a stream before and after a call: the bytes that it tells of, left in a source or taken by a sink, and how often it has failed
+-- a stream before and after a call: the bytes that it tells of, left in a source or taken by a
+-- sink, and how often it has failed
 pub record Stream (S : Type 0) : Type 0 where
   pub bytes : S → Option (List ℕ)
   pub faults : S → ℕ
   pub old : S
   pub new : S
 
--- What is promised of a call of the command for these words that answers this status. Causes are looked at in this order: the words,
--- the command's refusal of them, the reading, the text, the command's refusal of the scenario, the journal, the writing. Here, `bytes`
--- are all that the source had.
+-- What is promised of a call of the command for these words that answers this status. Causes are
+-- looked at in this order: the words, the command's refusal of them, the reading, the text, the
+-- command's refusal of the scenario, the journal, the writing. Here, `bytes` are all that the
+-- source had.
 pub record IsPerformed {S K : Type 0} (command : CommandParts) (said : List (List ℕ)) (source : Stream S) (sink : Stream K) (answer : ℕ) : Type 0 where
   -- The words alone decide on this status.
   pub words : (answer ≡ OTHER_WORDS) ↔ (command.are_words said → ⊥)
   pub unread : answer ≡ OTHER_WORDS → source.new ≡ source.old
-  -- Where the command refuses its words, they alone decide, but for a fault of the sink and for want of memory.
+  -- Where the command refuses its words, they alone decide, but for a fault of the sink and for
+  -- want of memory.
   pub early : command.are_words said → IfSome (command.words_refusal said) (λ _.
       (answer ≡ REFUSED) ⊎ (answer ≡ WRITE_FAULT) ⊎ (answer ≡ NO_MEMORY))
   pub early_unread : IfSome (command.words_refusal said) (λ _. source.new ≡ source.old)

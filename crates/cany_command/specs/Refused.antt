@@ -1,5 +1,6 @@
--- What is refused, and by which line. A command says which scenario it runs in place of the one that was read, or by which line
--- of its own it refuses that; what the text or the journal is refused for is the same for every command.
+-- What is refused, and by which line. A command says which scenario it runs in place of the one
+-- that was read, or by which line of its own it refuses that; what the text or the journal is
+-- refused for is the same for every command.
 use Rattle.std.specs.Prelude.{ℕ, List, Option, Some, option_map, option_and_then, Result, Ok, Err}
 use Rattle.cany_base.specs.Scenario.{ScenarioParts}
 use Rattle.cany_model.specs.declared.follow.FollowFault.{FollowFault}
@@ -28,7 +29,7 @@ abbrev pub refusal_for : (ScenarioParts → Chosen) → Read ScenarioParts → O
 refusal_for choose (Err fault) = Some (scenario_refusal_line fault)
 refusal_for choose (Ok scenario) = chosen_refusal (choose scenario)
 
--- the line of the refusal, where the bytes are no scenario, for their first fault; or the command's own; or where the journal of
--- the scenario that it runs is refused
+-- the line of the refusal, where the bytes are no scenario, for their first fault; or the command's
+-- own; or where the journal of the scenario that it runs is refused
 unfoldable pub refusal_by : (ScenarioParts → Chosen) → List ℕ → Option (List ℕ)
 refusal_by choose bytes = refusal_for choose (scenario_of bytes)

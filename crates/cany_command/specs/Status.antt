@@ -14,7 +14,7 @@ HasAnswered status = HasEnded (λ s. s ≡ DONE) status
 abbrev pub HasNoAnswer : ℕ → Type 0
 HasNoAnswer status = (status ≡ OTHER_WORDS) ⊎ (status ≡ READ_FAULT) ⊎ (status ≡ NO_MEMORY) ⊎ (status ≡ TOO_LONG)
 
--- the status is none of those that a command answers where it does not succeed, nor the one after them, that of a run which a
--- gate held
+-- the status is none of those that a command answers where it does not succeed, nor the one after
+-- them, that of a run which a gate held
 abbrev pub IsNoFault : ℕ → Type 0
 IsNoFault status = (status < OTHER_WORDS) ⊎ (TOO_LONG + 1 < status)

@@ -5,8 +5,8 @@ use Rattle.cany_model.specs.Runs.Run.{IsLegal, IsWhole}
 use Rattle.cany_world.specs.World.{WorldParts}
 use Rattle.cany_crew.specs.Gates.{IsOutcome, NoneFell}
 
--- the run of the scenario, with the node and the slot of a pass that was refused; where none was it has ended, and where there was
--- no memory the world is as before
+-- the run of the scenario, with the node and the slot of a pass that was refused; where none was it
+-- has ended, and where there was no memory the world is as before
 pub record IsEnding (old new : List ℕ) (before after : WorldParts) (ending : Result (Option (ℕ × ℕ)) Memory) : Type 0 where
   pub scenario : after.scenario ≡ before.scenario
   pub ended : IfOk ending (λ held. IfNone held (IsLegal after.scenario after.journal × IsWhole after.scenario after.journal))

@@ -19,7 +19,8 @@ pub record NoneFell (old new : List ℕ) : Type 0 where
   pub len : length new ≡ length old
   pub each : (node : ℕ) → slice_index old node ≤ slice_index new node
 
--- what the counts tell of steps that were all made, or were held at the node and the slot of a pass that was refused
+-- what the counts tell of steps that were all made, or were held at the node and the slot of a pass
+-- that was refused
 pub record IsOutcome (old new : List ℕ) (held : Option (ℕ × ℕ)) : Type 0 where
   pub fell : NoneFell old new
   pub passed : IfNone held (new ≡ old)

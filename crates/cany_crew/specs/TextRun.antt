@@ -1,4 +1,5 @@
--- What is promised of the run of a text by threads, and of the report of a run: each answer with its cause.
+-- What is promised of the run of a text by threads, and of the report of a run: each answer with
+-- its cause.
 use Rattle.std.specs.Prelude.{◌≡◌, ◌⊎◌, ℕ, true, List, Option, None, Result, Ok, IsOkAnd, IsSomeAnd, is_some}
 use Rattle.cany_base.specs.Scenario.{ScenarioParts}
 use Rattle.cany_io.specs.Faults.{HasRisen}

@@ -21,14 +21,15 @@ abbrev pub run_refusal_for : Read ScenarioParts → Option (List ℕ)
 run_refusal_for (Err fault) = Some (scenario_refusal_line fault)
 run_refusal_for (Ok scenario) = option_map (λ journal. journal_given_line) scenario.journal
 
--- the line of the refusal, where the bytes are no scenario, for their first fault, or where the scenario brings a journal
+-- the line of the refusal, where the bytes are no scenario, for their first fault, or where the
+-- scenario brings a journal
 unfoldable pub run_refusal : List ℕ → Option (List ℕ)
 run_refusal bytes = run_refusal_for (scenario_of bytes)
 
 -- ---- what is written
 
--- what success says of the scenario and of what the sink had taken before and has taken now: the report of the run by some
--- journal was written, which prints that journal
+-- what success says of the scenario and of what the sink had taken before and has taken now: the
+-- report of the run by some journal was written, which prints that journal
 pub record IsCrewRun (scenario : ScenarioParts) (old new : Option (List ℕ)) : Type 0 where
   -- the scenario has no journal of its own
   pub none : scenario.journal ≡ None

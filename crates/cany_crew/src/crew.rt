@@ -39,8 +39,8 @@ pub enum CrewFault {
     },
 }
 
-/// Works the seats of a yard, closes it, and makes the steps that are left. Gives the world, and the
-/// node and the slot of a pass that was refused.
+/// Works the seats of a yard, closes it, and makes the steps that are left. Gives the world, and
+/// the node and the slot of a pass that was refused.
 fn run_yard<R: Threads + Wait + Sync, L: Course + Send + Sync, B: Ledger + Send + Sync, G: Gate>(
     rt: &R,
     yard: Yard<L, B>,

@@ -1,5 +1,5 @@
-//! What no clause says of `crew_run` and of its yard, and no trial of the command shows: where a run
-//! is held, and that the close keeps the steps as they were made.
+//! What no clause says of `crew_run` and of its yard, and no trial of the command shows: where a
+//! run is held, and that the close keeps the steps as they were made.
 ghost use Rattle.std.specs.Prelude.{◌≡◌, [], IfOk};
 
 use cany_base::{Memory, NodeSet, Params, Scenario};

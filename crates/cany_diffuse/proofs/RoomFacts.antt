@@ -44,7 +44,8 @@ few_distinct (k ∷ keys) all distinct within =
     is_among-without q k all other (within q (rw (ne_eqb q k other) h))) in
     omega (arith, rest, length-without k all here)
 
--- where all keys that are there, and this one, stand in a list of at most as many as there is room for, this one may come
+-- where all keys that are there, and this one, stand in a list of at most as many as there is room
+-- for, this one may come
 pub room_within : (parts : EagerParts) (all : List ℕ) (key : ℕ) → IsCounted parts → length all ≤ parts.room
     → ((q : ℕ) → is_there parts q ≡ true → is_among q all ≡ true) → is_among key all ≡ true → HasRoomFor key parts
 room_within parts all key counted few within here = elim (cases_Bool (is_there parts key)) [

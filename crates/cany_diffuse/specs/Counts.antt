@@ -23,7 +23,8 @@ noted_in entries key = unwrap_or (entry_in entries key) nothing
 abbrev pub MayEnter : ℕ → Bounded (ℕ × Noted) → Type 0
 MayEnter key counts = (length counts.items < counts.room) ⊎ IsTrue (is_some (entry_in counts.items key))
 
--- each key is there once, there are no more than there is room for, and the memory for all of them is taken
+-- each key is there once, there are no more than there is room for, and the memory for all of them
+-- is taken
 pub record HasRoomMade (room : ℕ) (map : IndexMap ℕ Noted (BuildHasherDefault SeriesHasher)) : Type 0 where
   pub once : IsUnique nat_eq map
   pub fits : index_map_len map ≤ room

@@ -5,8 +5,8 @@ use Rattle.cany_diffuse.specs.declared.learnt.Learnt.{Learnt}
 use Rattle.cany_diffuse.specs.declared.learnt.Learnt.TheVariants.{First, Again, Enough}
 use Rattle.cany_diffuse.specs.Counts.{entry_in, noted_in}
 
--- how many omissions there may be, how many keys there may be, and what is noted of each key that is there. Contracts read
--- it by the words below alone: the order of the entries means nothing.
+-- how many omissions there may be, how many keys there may be, and what is noted of each key that
+-- is there. Contracts read it by the words below alone: the order of the entries means nothing.
 pub record EagerParts : Type 0 where
   pub omit : ℕ
   pub room : ℕ
@@ -95,7 +95,8 @@ pub record IsForgotten (key : ℕ) (old new : EagerParts) : Type 0 where
   pub there : (q : ℕ) → is_there new q ≡ is_there old q
   pub spare : spare_of new ≡ spare_of old
 
--- what a copy calls for, with so many copies, this one counted, and with or without the node's own transmission
+-- what a copy calls for, with so many copies, this one counted, and with or without the node's own
+-- transmission
 abbrev pub learnt_of : ℕ → ℕ → Bool → Learnt
 learnt_of omit copies owned =
     if nat_le (omit + 1) copies then Enough copies

@@ -11,6 +11,7 @@ number_of bytes =
 abbrev pub key_after : ℕ → List ℕ → ℕ
 key_after key bytes = if length bytes == 8 then number_of bytes else key
 
--- the group of a key, which it shares with the keys beside it, and above it the tag, which tells the keys of a group apart
+-- the group of a key, which it shares with the keys beside it, and above it the tag, which tells
+-- the keys of a group apart
 abbrev pub hash_of : ℕ → ℕ
 hash_of key = key / 8 % 2 ^ 24 + key * 0x9e37_79b9_7f4a_7c15 % 2 ^ 64 / 2 ^ 56 * 2 ^ 24

@@ -22,9 +22,9 @@ pub record EdcanParts : Type 0 where
 abbrev pub of_all : ℕ → Bool
 of_all origin = true
 
--- The value is that of node i after these notices, newest first: it has of each data frame the copies and the node's own
--- transmission that stand in them, and room for each message of the scenario by EDCAN. Its identifiers are those of the
--- scenario's format.
+-- The value is that of node i after these notices, newest first: it has of each data frame the
+-- copies and the node's own transmission that stand in them, and room for each message of the
+-- scenario by EDCAN. Its identifiers are those of the scenario's format.
 pub record IsEdcanOf (scenario : ScenarioParts) (i : ℕ) (past : List NoticeKind) (v : EdcanParts) : Type 0 where
   pub legal : IsLegalScenario scenario
   pub node : v.node ≡ i

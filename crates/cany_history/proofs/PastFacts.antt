@@ -1,4 +1,5 @@
--- Notices that were read of a cycle: which copies and transmissions of a vector there are among them.
+-- Notices that were read of a cycle: which copies and transmissions of a vector there are among
+-- them.
 use Rattle.std.proofs.Common.{◌≡◌, ℕ, zero, suc, ◌*◌, ◌<◌, ◌≤◌, inl, inr, ◌==◌, ◌&&◌, Bool, true, false, not, if◌then◌else◌, List, [], ◌∷◌, replicate, Option, Some, None, count_by, refl, ap, sym, ◌∙◌, subst, arith}
 use Rattle.std.specs.List.{AllByRecursion, list_any}
 use Rattle.std.proofs.lemmas.Bool.{and_parts, cases_Bool, eqb-true, false_from_ne_true}
@@ -155,7 +156,8 @@ idle_unread format cycle i (suc n) = (refl, idle_unread format cycle i n)
 
 -- ---- one notice more, before the start of a cycle or at it
 
--- a frame that is read after the start of its cycle has no vector of one that did not start before the slot
+-- a frame that is read after the start of its cycle has no vector of one that did not start before
+-- the slot
 early_frame : (p : Parameters) (slot cycle : ℕ) (f : FrameParts) → slot ≤ cycle * p.cycle → IsReadAfterStart p slot f
     → vector_in p.format cycle f ≡ None
 early_frame p slot cycle f early after = elim (cases_Bool (same_class f.class class.Rha && f.number == cycle)) [

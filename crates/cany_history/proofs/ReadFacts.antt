@@ -1,4 +1,5 @@
--- One notice more: what a value has after it, and what was read of the cycle while its vectors are exchanged.
+-- One notice more: what a value has after it, and what was read of the cycle while its vectors are
+-- exchanged.
 use Rattle.std.proofs.Common.{◌≡◌, ℕ, ◌+◌, ◌≤◌, inl, inr, ◌==◌, ◌&&◌, ◌||◌, Bool, true, false, not, cond, if◌then◌else◌, List, ◌∷◌, Option, Some, None, IfSome, count_by, refl, ap, sym, ◌∙◌, subst, arith}
 use Rattle.std.specs.List.{list_any}
 use Rattle.std.proofs.lemmas.Bool.{cases_Bool, eqb-true}

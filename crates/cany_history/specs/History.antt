@@ -12,8 +12,8 @@ use Rattle.cany_model.specs.Rules.Notices.{IsNextNotice, IsPart, IsReadableVecto
 use Rattle.cany_model.specs.Rules.Vectors.{brought, ended, exchange_at, is_vector_got, is_vector_sent, met, vector_in}
 use Rattle.cany_base.specs.Cycles.{cycle_of, is_end, is_exchange, is_start}
 
--- the node, the parameters, its vector of the present cycle if it has one, how many copies of just this vector it got, and whether it has
--- sent it
+-- the node, the parameters, its vector of the present cycle if it has one, how many copies of just
+-- this vector it got, and whether it has sent it
 pub record HistoryParts : Type 0 where
   pub node : ℕ
   pub params : Parameters
@@ -42,8 +42,9 @@ StandsIn (Some v) w = IsPart v w
 abbrev pub HasMore : Format → ℕ → ℕ → Option Nodes → NoticeKind → Type 0
 HasMore format cycle i vector notice = (w : Nodes) → vector_read format cycle i notice ≡ Some w → StandsIn vector w
 
--- What was read of the cycle while its vectors are exchanged, by a node with this vector now: each vector that was read has all of it,
--- and there was none where the node has none. The copies of just this vector are counted, and the node's own transmission is noted.
+-- What was read of the cycle while its vectors are exchanged, by a node with this vector now: each
+-- vector that was read has all of it, and there was none where the node has none. The copies of
+-- just this vector are counted, and the node's own transmission is noted.
 pub record IsExchangeOf (p : Parameters) (cycle i : ℕ) (past : List NoticeKind) (vector : Option Nodes) (v : HistoryParts) : Type 0 where
   pub more : AllByRecursion (HasMore p.format cycle i vector) past
   pub copies : IfSome vector (λ own. v.copies ≡ count_by (is_vector_got p.format cycle own) past)
@@ -56,8 +57,9 @@ pub record HasLimitsOf (scenario : ScenarioParts) (i node : ℕ) (params : Param
   pub is_node : node ≡ i
   pub are_params : params ≡ scenario.params
 
--- The value is that of node i after these notices, newest first, where this is its vector. By its start nothing was read of a cycle, and
--- while vectors are exchanged the value has what was read of the present one.
+-- The value is that of node i after these notices, newest first, where this is its vector. By its
+-- start nothing was read of a cycle, and while vectors are exchanged the value has what was read of
+-- the present one.
 pub record IsHistoryOf (scenario : ScenarioParts) (i : ℕ) (past : List NoticeKind) (own : Option Nodes) (v : HistoryParts) : Type 0 where
   pub limits : HasLimitsOf scenario i v.node v.params
   pub vector : v.vector ≡ own
@@ -75,7 +77,8 @@ pub record IsNextAt (scenario : ScenarioParts) (i : ℕ) (past : List NoticeKind
   pub next : IsNextNotice scenario past notice
   pub vector : IsReadableVector scenario.params i notice.slot own notice.kind
 
--- the vector with which a cycle can start in the slot: there is none where no cycle starts, and it has nodes of the bus alone
+-- the vector with which a cycle can start in the slot: there is none where no cycle starts, and it
+-- has nodes of the bus alone
 pub record StartsWith (p : Parameters) (slot : ℕ) (start : Option Nodes) : Type 0 where
   pub none : is_start p slot ≡ false → start ≡ None
   pub below : IfSome start (AllBelow p.nodes)
@@ -90,7 +93,8 @@ pub record CanRead (v : HistoryParts) (notice : Notice) : Type 0 where
 
 -- ---- an idle notice that leads to nothing
 
--- The value stands for one idle notice more as it is. No cycle starts or ends in its slot, and the node keeps its vector and does nothing.
+-- The value stands for one idle notice more as it is. No cycle starts or ends in its slot, and the
+-- node keeps its vector and does nothing.
 pub record Rests (scenario : ScenarioParts) (i : ℕ) (past : List NoticeKind) (own : Option Nodes) (v : HistoryParts) : Type 0 where
   pub stands : IsHistoryOf scenario i (Idle ∷ past) own v
   pub start : is_start scenario.params (length past) ≡ false

@@ -1,4 +1,5 @@
--- What a notice, the end of a cycle and the start of one do to a value of reception history vectors, and the actions that they call for.
+-- What a notice, the end of a cycle and the start of one do to a value of reception history
+-- vectors, and the actions that they call for.
 use Rattle.std.specs.Prelude.{◌≡◌, ℕ, ◌+◌, ◌<◌, ◌≤◌, ◌==◌, ◌&&◌, ◌||◌, Bool, true, false, nat_lt, if◌then◌else◌, List, [], ◌∷◌, Option, Some, None}
 use Rattle.cany_base.specs.declared.actions.Action.{Action}
 use Rattle.cany_base.specs.declared.actions.Action.TheVariants.{Ask, Withdraw}
@@ -14,7 +15,8 @@ use Rattle.cany_model.specs.Rules.Vectors.{brought, is_just, is_new, met_with, r
 use Rattle.cany_base.specs.Cycles.{cycle_of, is_end, is_start}
 use Rattle.cany_history.specs.History.{HistoryParts}
 
--- The node is one of the bus, which has not too many for the format, and the cycle of the slot has a number that frames have room for.
+-- The node is one of the bus, which has not too many for the format, and the cycle of the slot has
+-- a number that frames have room for.
 pub record IsInRun (slot : ℕ) (v : HistoryParts) : Type 0 where
   pub cycle : 0 < v.params.cycle
   pub number : cycle_of v.params slot < most_numbers

@@ -23,13 +23,14 @@ use std::marker::Model;
 
 /// The reception history vector of one node.
 ///
-/// This project's own rule. At the start of a membership cycle a member takes a set of nodes as its vector and sends it. While vectors
-/// are exchanged, each vector of the cycle that is got is met with the node's own, and with the set of all nodes where it has none. A
-/// vector that is new is sent, one that is covered is not: the node has sent just this one, or got it more than `omit` times. At the end
-/// of the cycle the vector is given up, and becomes the view.
+/// This project's own rule. At the start of a membership cycle a member takes a set of nodes as its
+/// vector and sends it. While vectors are exchanged, each vector of the cycle that is got is met
+/// with the node's own, and with the set of all nodes where it has none. A vector that is new is
+/// sent, one that is covered is not: the node has sent just this one, or got it more than `omit`
+/// times. At the end of the cycle the vector is given up, and becomes the view.
 ///
-/// Each vector that was got or sent in the cycle has all of the present one, so of a vector that is new there are no copies from before,
-/// and only those of the present one need be counted.
+/// Each vector that was got or sent in the cycle has all of the present one, so of a vector that is
+/// new there are no copies from before, and only those of the present one need be counted.
 #[derive(Drop)]
 pub struct History {
     node: NodeId,
@@ -49,7 +50,8 @@ impl Model for History {
 }
 
 impl History {
-    /// That of a node that has read nothing, or only notices of idle slots. It takes no memory: it is built as the other protocols are.
+    /// That of a node that has read nothing, or only notices of idle slots. It takes no memory: it
+    /// is built as the other protocols are.
     pub fn build(alloc: Global, node: NodeId, scenario: &Scenario) -> Result<History, Memory>
         requires { node < scenario.now.params.nodes }
         ensures { IfOk result (λ history. (n : ℕ) → IsHistoryOf scenario.now node (replicate n Idle) None history) }
@@ -64,11 +66,12 @@ impl History {
         })
     }
 
-    /// What a notice leads to: the vector in it, then the end of a cycle, then the start of one. `start` is what the node starts with,
-    /// given where a cycle starts and it is a member. The notices of the slots before the first that a value is given count as idle
-    /// ones.
+    /// What a notice leads to: the vector in it, then the end of a cycle, then the start of one.
+    /// `start` is what the node starts with, given where a cycle starts and it is a member. The
+    /// notices of the slots before the first that a value is given count as idle ones.
     ///
-    /// The answer is the vector that the node has at the end of a cycle. At most three actions are appended.
+    /// The answer is the vector that the node has at the end of a cycle. At most three actions are
+    /// appended.
     pub fn on(
         &mut self,
         notice: &Notice,
@@ -102,8 +105,8 @@ impl History {
         ended
     }
 
-    /// The first slot from `now` on in which an idle notice may lead to something: a membership cycle starts or ends in it. Until then
-    /// the value stands as it is for the idle notices too.
+    /// The first slot from `now` on in which an idle notice may lead to something: a membership
+    /// cycle starts or ends in it. Until then the value stands as it is for the idle notices too.
     pub fn wake(&self, now: Slot) -> Slot
         ensures rests { (scenario : ScenarioParts) (past : List NoticeKind) (vector : Option Nodes)
             → IsHistoryOf scenario self.now.node past vector self.now → now ≤ length past → length past < result
@@ -167,7 +170,8 @@ impl History {
         }
     }
 
-    /// At the start of a cycle a member sends what it starts with. Nothing was read of the cycle yet.
+    /// At the start of a cycle a member sends what it starts with. Nothing was read of the cycle
+    /// yet.
     #[tactic(auto, unfolding(crate::specs::HistorySteps::start_actions))]
     fn start(&mut self, slot: Slot, start: Option<NodeSet>, out: &mut Actions)
         requires run { IsInRun slot self.old }
@@ -223,7 +227,8 @@ impl History {
         frame.node.get() == self.node.get() && is_same(self.vector, sent)
     }
 
-    /// A vector that is brought is met with the node's own. The frame of one that is covered is withdrawn, that of a new one is asked for.
+    /// A vector that is brought is met with the node's own. The frame of one that is covered is
+    /// withdrawn, that of a new one is asked for.
     fn meet(&mut self, slot: Slot, got: NodeSet, out: &mut Actions)
         requires run { IsInRun slot self.old }
         requires below { IfSome self.old.vector (AllBelow self.old.params.nodes) }
@@ -244,7 +249,8 @@ impl History {
         }
     }
 
-    /// The node's own vector, or the set of all nodes where it has none, met with one that is brought.
+    /// The node's own vector, or the set of all nodes where it has none, met with one that is
+    /// brought.
     fn met_with(&self, got: NodeSet) -> NodeSet
         requires nodes { self.now.params.nodes ≤ most_nodes }
         requires below { IfSome self.now.vector (AllBelow self.now.params.nodes) }

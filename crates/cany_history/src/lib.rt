@@ -1,4 +1,5 @@
-//! Reception history vectors: in each membership cycle the nodes come to one set of nodes by exchanging it.
+//! Reception history vectors: in each membership cycle the nodes come to one set of nodes by
+//! exchanging it.
 #![tactic(auto)]
 
 mod cycle;

@@ -1,4 +1,5 @@
--- Counts of what went wrong. A count never falls, and stands still at the largest number of its type.
+-- Counts of what went wrong. A count never falls, and stands still at the largest number of its
+-- type.
 use Rattle.std.specs.Prelude.{◌≡◌, ℕ, ◌+◌, ◌-◌, ◌^◌, ◌<◌, min}
 
 -- the largest number of 64 bits

@@ -9,8 +9,8 @@ pub record SourceState : Type 0 where
   pub calls : ℕ
   pub faults : ℕ
 
--- the bytes taken, the calls that are to fail, how many bytes there is room for in all, how many calls
--- were made, and how many of them failed
+-- the bytes taken, the calls that are to fail, how many bytes there is room for in all, how many
+-- calls were made, and how many of them failed
 pub record SinkState : Type 0 where
   pub taken : List ℕ
   pub failing : List ℕ

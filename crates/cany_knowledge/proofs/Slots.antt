@@ -1,4 +1,5 @@
--- What is made slot by slot is the greatest slot of its kind, or that something holds since some slot.
+-- What is made slot by slot is the greatest slot of its kind, or that something holds since some
+-- slot.
 use Rattle.std.proofs.Common.{◌≡◌, ℕ, suc, ◌-◌, ◌<◌, ◌≤◌, ◌⊎◌, ◌↔◌, ◌&&◌, ◌||◌, inl, inr, Bool, true, false, not, if◌then◌else◌, List, [], ◌∷◌, drop, length, refl, ap, sym, ◌∙◌, subst, arith}
 use Rattle.std.proofs.lemmas.Bool.{and_from, and_parts, both_ways, cases_Bool, cases_eq, cases_lt, cond-false, cond-true, false≢true, not-true, not_from_false, or_cases, or_left, or_right}
 use Rattle.cany_base.specs.declared.notice.NoticeKind.{NoticeKind}

@@ -170,7 +170,8 @@ module _ (scenario : ScenarioParts) (i k : ℕ) (formulas : MeetsFormulas scenar
 
 -- ---- no vector
 
--- a turn in which no cycle starts, and no vector is exchanged or one ends, leaves a node without one
+-- a turn in which no cycle starts, and no vector is exchanged or one ends, leaves a node without
+-- one
 module _ (scenario : ScenarioParts) (i : ℕ) (e : NoticeKind) (past : List NoticeKind) (start : is_start scenario.params (length past) ≡ false) where
   vector_there : (knowledge_of scenario i (e ∷ past)).vector
       ≡ (if is_end scenario.params (length past) then None

@@ -1,5 +1,6 @@
--- What a node knows of the site, each part by itself and of all that it has read: in which slot a node last showed life, who has asked to join
--- and to leave, and what its vector is. The steps of a turn are not in it.
+-- What a node knows of the site, each part by itself and of all that it has read: in which slot a
+-- node last showed life, who has asked to join and to leave, and what its vector is. The steps of a
+-- turn are not in it.
 use Rattle.std.specs.Prelude.{◌≡◌, ℕ, suc, ◌-◌, ◌*◌, ◌<◌, ◌≤◌, ◌⊎◌, ◌==◌, ◌&&◌, ◌||◌, ◌++◌, Bool, true, false, not, nat_lt, if◌then◌else◌, List, [], ◌∷◌, drop, length, Option, Some, None}
 use Rattle.std.specs.List.{list_all}
 use Rattle.cany_base.specs.declared.class.Class.TheVariants as class
@@ -66,8 +67,9 @@ abbrev pub met_with_some : Nodes → List Nodes → Option Nodes
 met_with_some set [] = None
 met_with_some set (v ∷ vectors) = Some (met_with_all set (v ∷ vectors))
 
--- The vector of node i in cycle k. A member starts with the members that have not failed and do not leave, and with those that join: this set
--- is met with all vectors that were got since. Another node has none until it gets one, and meets the set of all nodes.
+-- The vector of node i in cycle k. A member starts with the members that have not failed and do not
+-- leave, and with those that join: this set is met with all vectors that were got since. Another
+-- node has none until it gets one, and meets the set of all nodes.
 unfoldable pub vector_of_cycle : ScenarioParts → (i k : ℕ) → List NoticeKind → Option Nodes
 vector_of_cycle scenario i k past =
     let start = knowledge_of scenario i (up_to (k * scenario.params.cycle) past) in

@@ -1,5 +1,5 @@
-//! What a node knows of the site, in closed form: the definitions of the model make it turn by turn, and these laws say of each part what it
-//! is of all that was read. No crate stands on it.
+//! What a node knows of the site, in closed form: the definitions of the model make it turn by
+//! turn, and these laws say of each part what it is of all that was read. No crate stands on it.
 #![tactic(auto)]
 
 ghost use Rattle.std.specs.Prelude.{◌≡◌, ◌<◌, ◌≤◌, ◌+◌, ◌*◌, ◌↔◌, ℕ, suc, true, List, ◌∷◌, length, None, unwrap_or};
@@ -11,27 +11,30 @@ ghost use Rattle.cany_base.specs.Scenario.{ScenarioParts};
 ghost use Rattle.cany_knowledge.specs.ClosedForms.{HoldsSince, IsGreatest, installed_in, is_with, is_without, joins_in, leaves_in, members_of, shows_life_in, shows_own_life_in, vector_of_cycle};
 ghost use Rattle.cany_model.specs.Rules.KnowledgeOf.{knowledge_of};
 
-/// The slot in which another node last showed life, as a node knows it: the greatest slot in which it got a frame of that node that shows life,
-/// or in which that node came into its view.
+/// The slot in which another node last showed life, as a node knows it: the greatest slot in which
+/// it got a frame of that node that shows life, or in which that node came into its view.
 pub fn shown_is_the_last_slot()
     ensures { (scenario : ScenarioParts) (i r : ℕ) (past : List NoticeKind) → r < most_nodes
         → IsGreatest (shows_life_in scenario i r) past ((knowledge_of scenario i past).shown r) }
 {}
 
-/// The slot of its own last life: the greatest in which it read that it had sent such a frame, or in which it came into its own view.
+/// The slot of its own last life: the greatest in which it read that it had sent such a frame, or
+/// in which it came into its own view.
 pub fn last_is_the_last_slot()
     ensures { (scenario : ScenarioParts) (i : ℕ) (past : List NoticeKind) → i < most_nodes
         → IsGreatest (shows_own_life_in scenario i) past (knowledge_of scenario i past).last }
 {}
 
-/// Its vector in a cycle, from the start on and before the end: what it started with, met with all vectors of the cycle that it got since.
+/// Its vector in a cycle, from the start on and before the end: what it started with, met with all
+/// vectors of the cycle that it got since.
 pub fn vector_is_all_that_was_got()
     ensures { (scenario : ScenarioParts) (i k : ℕ) (past : List NoticeKind) → MeetsFormulas scenario.params → 0 < k
         → k * scenario.params.cycle < length past → length past ≤ k * scenario.params.cycle + scenario.params.bound
         → (knowledge_of scenario i past).vector ≡ vector_of_cycle scenario i k past }
 {}
 
-/// It has no vector before the start of the first cycle, nor from the end of a cycle to the start of the next.
+/// It has no vector before the start of the first cycle, nor from the end of a cycle to the start
+/// of the next.
 pub fn a_vector_is_held_in_cycles_alone()
     ensures before { (scenario : ScenarioParts) (i : ℕ) (past : List NoticeKind) → MeetsFormulas scenario.params
         → length past ≤ scenario.params.cycle → (knowledge_of scenario i past).vector ≡ None }
@@ -40,21 +43,23 @@ pub fn a_vector_is_held_in_cycles_alone()
         → (knowledge_of scenario i past).vector ≡ None }
 {}
 
-/// The view: it becomes the vector of the cycle where one ends, with what was got in that slot too, and stays as it is elsewhere, and where
-/// there is no vector.
+/// The view: it becomes the vector of the cycle where one ends, with what was got in that slot too,
+/// and stays as it is elsewhere, and where there is no vector.
 pub fn view_is_the_vector()
     ensures { (scenario : ScenarioParts) (i : ℕ) (notice : NoticeKind) (older : List NoticeKind) → MeetsFormulas scenario.params
         → members_of scenario i (notice ∷ older) ≡ unwrap_or (installed_in scenario i (notice ∷ older)) (members_of scenario i older) }
 {}
 
-/// The joiners: those of which it got a JOIN while they were outside its view, and that stand in no vector installed since.
+/// The joiners: those of which it got a JOIN while they were outside its view, and that stand in no
+/// vector installed since.
 pub fn joiners_are_those_heard()
     ensures { (scenario : ScenarioParts) (i r : ℕ) (past : List NoticeKind) → MeetsFormulas scenario.params → r < most_nodes
         → (has (knowledge_of scenario i past).joiners r ≡ true)
         ↔ HoldsSince (joins_in scenario i r) (λ read. is_with r (installed_in scenario i read)) past }
 {}
 
-/// The leavers: those of which it read a LEAVE while they were in its view, and that stand in each vector installed since.
+/// The leavers: those of which it read a LEAVE while they were in its view, and that stand in each
+/// vector installed since.
 pub fn leavers_are_those_heard()
     ensures { (scenario : ScenarioParts) (i r : ℕ) (past : List NoticeKind) → MeetsFormulas scenario.params → r < most_nodes
         → (has (knowledge_of scenario i past).leavers r ≡ true)

@@ -9,7 +9,8 @@ use Rattle.cany_model.specs.Promises.Order.{Content, order, order_by}
 use Rattle.cany_laws.specs.Order.{deliveries_as, is_accepted_by_it_or_some, ordered_deliveries}
 use Rattle.cany_law_rows.proofs.RowWords.{again, key, of_nodes, repeated, row, seen_by, seen_of, send, slot_rule, steps, three_at_lag_1, two, within}
 
--- since which slot it takes part, what it has delivered, of this what a running node has accepted, and the two orders from that slot on
+-- since which slot it takes part, what it has delivered, of this what a running node has accepted,
+-- and the two orders from that slot on
 record Parts : Type 0 where
   from : ℕ
   delivered : List Content
@@ -35,9 +36,10 @@ content origin seq byte = record { msg = key origin seq; payload = byte ∷ [] }
 
 -- ---- a node that stopped
 
--- At a lag of one slot node 2 delivers the message of node 0 in slot 2, its own in slot 4 and that of node 1 in slot 6, and stops in slot 8. The other two
--- deliver those of node 0 and node 1. What node 2 has delivered is no prefix of the order, also not without its last message: between two messages of the
--- order it has one that it alone has accepted. Without that one it is.
+-- At a lag of one slot node 2 delivers the message of node 0 in slot 2, its own in slot 4 and that
+-- of node 1 in slot 6, and stops in slot 8. The other two deliver those of node 0 and node 1. What
+-- node 2 has delivered is no prefix of the order, also not without its last message: between two
+-- messages of the order it has one that it alone has accepted. Without that one it is.
 unfoldable at_lag_1 : ScenarioParts
 at_lag_1 = three_at_lag_1 90 (send Tot 0 0 (3 ∷ []) ∷ send Tot 3 2 (1 ∷ []) ∷ send Tot 4 1 (2 ∷ []) ∷ []) (slot_rule 8 Lost 4 ∷ [])
 
@@ -63,8 +65,8 @@ a_prefix_without_the_lone_one = refl
 
 -- ---- a node that started again
 
--- Node 1 stops in slot 5, starts again at the end of slot 6, and takes part since slot 26. Each of its two incarnations has a prefix of the order from the
--- first slot in which it takes part.
+-- Node 1 stops in slot 5, starts again at the end of slot 6, and takes part since slot 26. Each of
+-- its two incarnations has a prefix of the order from the first slot in which it takes part.
 unfoldable restarted : ScenarioParts
 restarted = two 60 (send Tot 0 0 (1 ∷ []) ∷ send Tot 30 0 (2 ∷ []) ∷ []) (slot_rule 5 Clean 2 ∷ []) (again 6 1 ∷ [])
 

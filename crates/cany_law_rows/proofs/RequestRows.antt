@@ -1,4 +1,5 @@
--- Worked rows of how often the bus carries the frame that confirms a message, and those that ask to join and to leave.
+-- Worked rows of how often the bus carries the frame that confirms a message, and those that ask to
+-- join and to leave.
 use Rattle.std.specs.Prelude.{◌≡◌, ℕ, List, [], ◌∷◌, refl}
 use Rattle.cany_base.specs.declared.class.Class.TheVariants.{Join, Leave}
 use Rattle.cany_base.specs.declared.message.Service.TheVariants.{Rel}
@@ -13,7 +14,8 @@ use Rattle.cany_law_rows.proofs.RowWords.{again, key, row, seen_of, send, set, s
 
 -- ---- a message that is confirmed
 
--- how often the data frame of node 0's first message was carried Clean, and the frame that confirms it
+-- how often the data frame of node 0's first message was carried Clean, and the frame that confirms
+-- it
 abbrev frames_of_it : RunState → List ℕ
 frames_of_it s = times_clean (data_of Rel (key 0 0)) s.trace ∷ times_clean (confirm_of_key (key 0 0)) s.trace ∷ []
 
@@ -25,7 +27,8 @@ once_each : seen_of frames_of_it confirmed ≡ within (1 ∷ 1 ∷ [])
 unfolding row confirmed
 once_each = refl
 
--- The origin stops in the slot of the data frame, and starts again: the other node falls back, and nobody ever confirms the message.
+-- The origin stops in the slot of the data frame, and starts again: the other node falls back, and
+-- nobody ever confirms the message.
 unfoldable unconfirmed : ScenarioParts
 unconfirmed = two 30 (send Rel 0 0 (1 ∷ []) ∷ []) (slot_rule 1 Clean 1 ∷ []) (again 2 0 ∷ [])
 
@@ -35,12 +38,14 @@ never_confirmed = refl
 
 -- ---- asks to join and to leave
 
--- how often the frames by which node 1 asks in cycle 0 were carried Clean, and how many entries they make
+-- how often the frames by which node 1 asks in cycle 0 were carried Clean, and how many entries
+-- they make
 abbrev requests_of : ScenarioParts → RunState → List ℕ
 requests_of sc s =
     times_clean (ask_of Join 0 1) s.trace ∷ entries_of sc.params 1 0 sc.joins ∷ times_clean (ask_of Leave 0 1) s.trace ∷ entries_of sc.params 1 0 sc.leaves ∷ []
 
--- Node 1 is no member, and asks in two slots of one cycle to join: the frame is carried twice, and not once a cycle.
+-- Node 1 is no member, and asks in two slots of one cycle to join: the frame is carried twice, and
+-- not once a cycle.
 unfoldable joins_twice : ScenarioParts
 joins_twice = let sc = two 6 [] [] [] in record sc { members = set 1; joins = again 0 1 ∷ again 3 1 ∷ [] }
 

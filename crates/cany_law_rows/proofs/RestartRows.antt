@@ -13,7 +13,8 @@ use Rattle.cany_laws.specs.Membership.{members_as}
 use Rattle.cany_laws.specs.Views.{installed_as}
 use Rattle.cany_law_rows.proofs.RowWords.{again, delivers, key, lived, lived_in, lives_of, of_nodes, row, seen_of, send, set, slot_rule, three, three_by, two, within, Lived}
 
--- Node 1 stops in slot 5 and starts again at the end of slot 6. It takes part since slot 26, so in cycle 1, which starts in slot 38 and ends in slot 57.
+-- Node 1 stops in slot 5 and starts again at the end of slot 6. It takes part since slot 26, so in
+-- cycle 1, which starts in slot 38 and ends in slot 57.
 unfoldable back_in_time : ScenarioParts
 back_in_time = two 60 [] (slot_rule 5 Clean 2 ∷ []) (again 6 1 ∷ [])
 
@@ -25,8 +26,9 @@ record WithViews : Type 0 where
 abbrev viewed_in : RunState → ℕ → EndedIncarnation → WithViews
 viewed_in s i e = record { came = lived_in back_in_time s i e; views = members_as back_in_time s 56 i e ∷ members_as back_in_time s 57 i e ∷ [] }
 
--- It stands in the view of node 0 all the time without having asked to join, and counts as failed there since slot 39 although it runs. The two have one view from
--- the end of that cycle on, and not before: the law on membership asks for a vector that was installed.
+-- It stands in the view of node 0 all the time without having asked to join, and counts as failed
+-- there since slot 39 although it runs. The two have one view from the end of that cycle on, and
+-- not before: the law on membership asks for a vector that was installed.
 back_without_asking :
     seen_of (of_nodes viewed_in 2) back_in_time
     ≡ within ((record { came = lived 0 60 (Failed 39 1 1 ∷ View 57 1 (set 3) ∷ []); views = set 3 ∷ set 3 ∷ [] } ∷ [])
@@ -35,8 +37,9 @@ back_without_asking :
 unfolding row back_in_time
 back_without_asking = refl
 
--- A message that is sent once it takes part again: both incarnations that have read its closing had accepted it by then, and both have delivered it. The earlier one of
--- node 1 takes part since before too, but has not read it.
+-- A message that is sent once it takes part again: both incarnations that have read its closing had
+-- accepted it by then, and both have delivered it. The earlier one of node 1 takes part since
+-- before too, but has not read it.
 unfoldable sent_later : ScenarioParts
 sent_later = two 52 (send Tot 30 0 (1 ∷ []) ∷ []) (slot_rule 5 Clean 2 ∷ []) (again 6 1 ∷ [])
 
@@ -57,9 +60,11 @@ taken_by_both = refl
 
 -- ---- a stopped node that stays
 
--- Node 1 starts again while the others run, and installs the vector of cycle 1 in slot 108: before that it has no node in its view. Node 2 stops in slot 40, and is in
--- the vector of cycle 2, which starts in slot 144, so more than the silence of 73 slots later: the laws ask for an incarnation that had it in its view a silence or
--- more before the cycle starts, and reads the cycle to its end.
+-- Node 1 starts again while the others run, and installs the vector of cycle 1 in slot 108: before
+-- that it has no node in its view. Node 2 stops in slot 40, and is in the vector of cycle 2, which
+-- starts in slot 144, so more than the silence of 73 slots later: the laws ask for an incarnation
+-- that had it in its view a silence or more before the cycle starts, and reads the cycle to its
+-- end.
 unfoldable stays_after_its_stop : ScenarioParts
 stays_after_its_stop = three 182 [] (slot_rule 3 Clean 2 ∷ slot_rule 40 Clean 4 ∷ slot_rule 74 Clean 1 ∷ []) (again 4 1 ∷ [])
 
@@ -71,8 +76,9 @@ stopped_and_in_a_later_view = refl
 
 -- ---- a message that two incarnations deliver
 
--- Node 1 delivers a RELCAN message in slot 1, stops, starts again, and takes part since slot 40. Its origin stopped too, so node 2 sends the message again once its timer
--- has run, and node 1 delivers it again: that a message is delivered once is said of one incarnation.
+-- Node 1 delivers a RELCAN message in slot 1, stops, starts again, and takes part since slot 40.
+-- Its origin stopped too, so node 2 sends the message again once its timer has run, and node 1
+-- delivers it again: that a message is delivered once is said of one incarnation.
 unfoldable sent_again : ScenarioParts
 sent_again = three_by 73 50 53 (send Rel 0 0 [] ∷ []) (slot_rule 2 Lost 3 ∷ []) (again 3 1 ∷ [])
 
@@ -85,8 +91,9 @@ delivered_by_two_incarnations = refl
 
 -- ---- no member is left
 
--- Both nodes stop and start again, and take part since slot 26. Each asks to join, and each ask is carried, but neither stands in its own view: nobody starts a
--- vector in the two cycles that follow, and there is no view any more.
+-- Both nodes stop and start again, and take part since slot 26. Each asks to join, and each ask is
+-- carried, but neither stands in its own view: nobody starts a vector in the two cycles that
+-- follow, and there is no view any more.
 unfoldable no_member_is_left : ScenarioParts
 unfolding two
 no_member_is_left =

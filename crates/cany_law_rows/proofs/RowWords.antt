@@ -1,4 +1,5 @@
--- What the worked rows of the laws are written with: small runs, and what each incarnation of their nodes came to.
+-- What the worked rows of the laws are written with: small runs, and what each incarnation of their
+-- nodes came to.
 use Rattle.std.specs.Prelude.{ℕ, zero, suc, ◌-◌, ◌==◌, ◌++◌, Bool, if◌then◌else◌, List, [], ◌∷◌, Option, None, map, take}
 use Rattle.std.specs.List.{range_with_len}
 use Rattle.std.proofs.Common.{◌≡◌, ap, ◌∙◌, sym}
@@ -32,8 +33,9 @@ use Rattle.cany_laws.specs.Logs.{log_as}
 pub use Rattle.cany_model.proofs.RowWords.{set}
 unfoldable pub use Rattle.cany_model.proofs.RowWords.{ask as again, send, slot_rule}
 
--- So many nodes, all members, at lag 0, with one omission and two errors. The other parameters are the least: of two nodes a cycle has 38 slots and ends in its slot
--- 19, and a member has failed after 39 slots without life; of three these are 72, 36 and 73.
+-- So many nodes, all members, at lag 0, with one omission and two errors. The other parameters are
+-- the least: of two nodes a cycle has 38 slots and ends in its slot 19, and a member has failed
+-- after 39 slots without life; of three these are 72, 36 and 73.
 unfoldable pub two : ℕ → List SendAsk → List Rule → List NodeAsk → ScenarioParts
 unfolding scenario_of
 two slots sends rules restarts = scenario_of (default_parameters 2 slots) 3 sends rules restarts
@@ -79,7 +81,8 @@ of_nodes ask nodes s = map (λ i. map (ask s i) (incarnations s i)) (range_with_
 abbrev pub lived_in : ScenarioParts → RunState → ℕ → EndedIncarnation → Lived
 lived_in sc s i e = record { from = e.incarnation.from; next = e.next; log = log_as sc s i e }
 
--- Of the run of a scenario: where it leaves the hypothesis, and what was asked of it. So all rows of a run are one, and it is computed once.
+-- Of the run of a scenario: where it leaves the hypothesis, and what was asked of it. So all rows
+-- of a run are one, and it is computed once.
 pub record Seen (A : Type 0) : Type 0 where
   pub broken : Option Break
   pub seen : A

@@ -1,4 +1,5 @@
--- A worked row of one sequence: a node that stopped has delivered a message that nobody else delivers, and after it one that all deliver.
+-- A worked row of one sequence: a node that stopped has delivered a message that nobody else
+-- delivers, and after it one that all deliver.
 use Rattle.std.specs.Prelude.{◌≡◌, ◌++◌, List, [], ◌∷◌, codes, refl}
 use Rattle.cany_base.specs.declared.message.Service.TheVariants.{Tot}
 use Rattle.cany_base.specs.declared.rule.Verdict.TheVariants.{Lost}
@@ -10,8 +11,9 @@ use Rattle.cany_model.specs.Promises.Order.{Content, tot_deliveries}
 use Rattle.cany_laws.specs.Sequence.{clean_sequence}
 use Rattle.cany_law_rows.proofs.RowWords.{key, of_nodes, repeated, row, seen_by, send, slot_rule, steps, three_at_lag_1, within}
 
--- At a lag of one slot node 2 delivers its own message in slot 1 and that of node 1 in slot 3, and stops in slot 5. The other two deliver that of node 1 alone. So what a
--- stopped node has delivered is not the order of the others with one message more at its end: it is part of one sequence.
+-- At a lag of one slot node 2 delivers its own message in slot 1 and that of node 1 in slot 3, and
+-- stops in slot 5. The other two deliver that of node 1 alone. So what a stopped node has delivered
+-- is not the order of the others with one message more at its end: it is part of one sequence.
 unfoldable at_lag_1 : ScenarioParts
 at_lag_1 = three_at_lag_1 100 (send Tot 0 2 (1 ∷ []) ∷ send Tot 1 1 (2 ∷ []) ∷ []) (slot_rule 5 Lost 4 ∷ [])
 

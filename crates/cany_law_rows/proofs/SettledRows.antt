@@ -6,14 +6,16 @@ use Rattle.cany_base.specs.Scenario.{ScenarioParts}
 use Rattle.cany_model.specs.Rules.Messages.{Message}
 use Rattle.cany_law_rows.proofs.RowWords.{again, row, send, settled_after, slot_rule, two}
 
--- Node 0 is to send in slot 30, stops in slot 1, and starts again at the end of slot 2: it takes part since slot 22.
+-- Node 0 is to send in slot 30, stops in slot 1, and starts again at the end of slot 2: it takes
+-- part since slot 22.
 unfoldable asks_again : ScenarioParts
 asks_again = two 33 (send Ed 30 0 (1 ∷ []) ∷ []) (slot_rule 1 Clean 1 ∷ []) (again 2 0 ∷ [])
 
 unfoldable its_message : Message
 its_message = record { slot = 30; origin = 0; seq = 0; service = Ed; payload = 1 ∷ [] }
 
--- After slot 1 its message is settled, since its origin is stopped. After slot 30 it is not: the law asks that the scripted slot ran. At the end it is settled again.
+-- After slot 1 its message is settled, since its origin is stopped. After slot 30 it is not: the
+-- law asks that the scripted slot ran. At the end it is settled again.
 settled_before_its_slot :
     settled_after 5 asks_again its_message ∷ settled_after 91 asks_again its_message ∷ settled_after 97 asks_again its_message ∷ [] ≡ true ∷ false ∷ true ∷ []
 unfolding row asks_again its_message

@@ -1,4 +1,5 @@
--- Worked rows of a node that is not heard: when it has failed, and that it is out of the view of the next cycle.
+-- Worked rows of a node that is not heard: when it has failed, and that it is out of the view of
+-- the next cycle.
 use Rattle.std.specs.Prelude.{Bool, ◌≡◌, ℕ, false, List, [], ◌∷◌, Option, Some, take, refl}
 use Rattle.std.specs.List.{list_any}
 use Rattle.cany_base.specs.declared.log_entry.LogEntry.TheVariants.{Failed, View}
@@ -12,12 +13,13 @@ use Rattle.cany_laws.specs.Membership.{knowledge_as}
 use Rattle.cany_laws.specs.Views.{installed_as}
 use Rattle.cany_law_rows.proofs.RowWords.{again, lived, lived_in, lives_of, of_nodes, row, seen_of, set, slot_rule, three_by, two, within, Lived}
 
--- Node 1 stops in slot 5, and never showed life. A cycle starts in slot 38, and the next one in slot 76; it ends in slot 95.
+-- Node 1 stops in slot 5, and never showed life. A cycle starts in slot 38, and the next one in
+-- slot 76; it ends in slot 95.
 unfoldable never_heard : ScenarioParts
 never_heard = two 97 [] (slot_rule 5 Clean 2 ∷ []) []
 
--- At node 0: whether it hears life of node 1 in the slots after 0 and up to 39, who counts as failed after its turns of slots 38 and 39, and the vectors of cycles
--- 1 and 2.
+-- At node 0: whether it hears life of node 1 in the slots after 0 and up to 39, who counts as
+-- failed after its turns of slots 38 and 39, and the vectors of cycles 1 and 2.
 record AtNode0 : Type 0 where
   heard : Bool
   failed : List Nodes
@@ -32,7 +34,8 @@ at_node_0 s =
       vectors = installed_as never_heard s 0 e 1 ∷ installed_as never_heard s 0 e 2 ∷ [];
     }
 
--- it hears none, and counts node 1 as failed in slot 39: node 1 is in the view of the cycle that started before that, and not in that of the next one
+-- it hears none, and counts node 1 as failed in slot 39: node 1 is in the view of the cycle that
+-- started before that, and not in that of the next one
 out_of_the_next_view :
     seen_of at_node_0 never_heard ≡ within (record { heard = false; failed = set 0 ∷ set 2 ∷ []; vectors = Some (set 3) ∷ Some (set 1) ∷ [] })
 unfolding row never_heard
@@ -40,8 +43,10 @@ out_of_the_next_view = refl
 
 -- ---- what the laws on silent nodes ask for
 
--- Node 2 stops in slot 76. Node 0 counts it as failed in slot 144, in which cycle 2 starts, and stops in the next slot, in which its vector without node 2 reaches
--- nobody. Node 1, which heard node 2 later, installs a vector with it: a member that has not read the cycle to its end does not count.
+-- Node 2 stops in slot 76. Node 0 counts it as failed in slot 144, in which cycle 2 starts, and
+-- stops in the next slot, in which its vector without node 2 reaches nobody. Node 1, which heard
+-- node 2 later, installs a vector with it: a member that has not read the cycle to its end does not
+-- count.
 unfoldable stops_with_what_it_found : ScenarioParts
 stops_with_what_it_found = three_by 105 10 181 [] (slot_rule 76 (Partial (set 1)) 4 ∷ slot_rule 145 Lost 1 ∷ []) []
 
@@ -52,9 +57,10 @@ the_others_have_it :
 unfolding row stops_with_what_it_found
 the_others_have_it = refl
 
--- Node 2, which is no member at first, asks to join in slot 10, and the vector of cycle 1, which is installed in slot 108, has it. Nobody hears life of it up to slot
--- 144, in which cycle 2 starts, and it is in the vector of that cycle too: a silence counts only from a slot on after which the node is in
--- the view.
+-- Node 2, which is no member at first, asks to join in slot 10, and the vector of cycle 1, which is
+-- installed in slot 108, has it. Nobody hears life of it up to slot 144, in which cycle 2 starts,
+-- and it is in the vector of that cycle too: a silence counts only from a slot on after which the
+-- node is in the view.
 unfoldable joins_and_is_silent : ScenarioParts
 unfolding three_by
 joins_and_is_silent =

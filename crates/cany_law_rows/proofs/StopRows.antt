@@ -12,7 +12,8 @@ use Rattle.cany_law_rows.proofs.RowWords.{delivers, key, lived, lived_in, lives_
 
 -- ---- a node that stopped
 
--- Node 0 accepts its own message, which was carried Clean in slot 1, delivers it and stops in the next slot, in which the frame that accepts it reaches nobody.
+-- Node 0 accepts its own message, which was carried Clean in slot 1, delivers it and stops in the
+-- next slot, in which the frame that accepts it reaches nobody.
 unfoldable alone : ScenarioParts
 alone = three 45 (send Tot 0 0 (1 ∷ []) ∷ []) (slot_rule 2 (Partial (set 6)) 1 ∷ []) []
 
@@ -27,14 +28,16 @@ with_it s i e = record { came = lived_in alone s i e; accepted = accepted_in_tim
 abbrev without_it : WithIt
 without_it = record { came = lived 0 45 []; accepted = false }
 
--- It did not read slot 37, in which the message closes. The law on acceptance is of those that did: the other two have not accepted it.
+-- It did not read slot 37, in which the message closes. The law on acceptance is of those that did:
+-- the other two have not accepted it.
 delivered_by_a_stopped_node :
     seen_of (of_nodes with_it 3) alone
     ≡ within ((record { came = lived 0 2 (delivers 1 Tot 0 0 (1 ∷ []) ∷ []); accepted = true } ∷ []) ∷ (without_it ∷ []) ∷ (without_it ∷ []) ∷ [])
 unfolding row alone
 delivered_by_a_stopped_node = refl
 
--- Node 1 stops once it has read slot 20, in which the message closes. It has delivered it, as the other one has.
+-- Node 1 stops once it has read slot 20, in which the message closes. It has delivered it, as the
+-- other one has.
 unfoldable stops_after_the_closing : ScenarioParts
 stops_after_the_closing = two 30 (send Tot 0 0 (1 ∷ []) ∷ []) (slot_rule 22 Clean 2 ∷ []) []
 
@@ -44,7 +47,8 @@ delivered_by_both :
 unfolding row stops_after_the_closing
 delivered_by_both = refl
 
--- Node 1 stops once it has read the end of cycle 1, in slot 57. Its log has the view that the other one has.
+-- Node 1 stops once it has read the end of cycle 1, in slot 57. Its log has the view that the other
+-- one has.
 unfoldable stops_with_the_view : ScenarioParts
 stops_with_the_view = two 60 [] (slot_rule 58 Clean 2 ∷ []) []
 

@@ -42,7 +42,8 @@ asked_by sc s m t = has_asked (scenario_at sc s m.origin) m m.origin (history_to
 
 -- ---- two messages of one origin
 
--- Node 0 asks for both in its turn of slot 0. The second waits behind the first, which both nodes send.
+-- Node 0 asks for both in its turn of slot 0. The second waits behind the first, which both nodes
+-- send.
 unfoldable in_a_row : ScenarioParts
 in_a_row = two 58 (send Ed 0 0 (1 ∷ []) ∷ send Ed 0 0 (2 ∷ []) ∷ []) [] []
 
@@ -53,7 +54,8 @@ unfoldable its_run : RunState
 unfolding row
 its_run = run in_a_row (round_robin in_a_row)
 
--- two of the 57 slots carried a frame that wins over it; of three windows at least three slots are left: the law says that it is carried Clean before slot 58
+-- two of the 57 slots carried a frame that wins over it; of three windows at least three slots are
+-- left: the law says that it is carried Clean before slot 58
 behind_two : interference (data_id second) its_run (waits_since in_a_row.params 0) 57 ≡ 2
 unfolding row its_run in_a_row second
 behind_two = refl
@@ -81,7 +83,8 @@ delivered_in_slot_3 = refl
 
 -- ---- a disturbed slot
 
--- The same with slot 1 lost, which the hypothesis allows. The second message waits behind two frames all the same, and a slot longer: a lost slot counts too.
+-- The same with slot 1 lost, which the hypothesis allows. The second message waits behind two
+-- frames all the same, and a slot longer: a lost slot counts too.
 unfoldable disturbed : ScenarioParts
 disturbed = two 58 (send Ed 0 0 (1 ∷ []) ∷ send Ed 0 0 (2 ∷ []) ∷ []) (slot_rule 1 Lost 0 ∷ []) []
 
@@ -108,9 +111,10 @@ as_often_as_nodes : times_clean (data_id second) its_run.trace ∷ incarnations_
 unfolding row its_run in_a_row second incarnations_of_first
 as_often_as_nodes = refl
 
--- With a restart it may be carried more often than there are nodes. Node 0 sends in slot 1, stops, and starts again; the relay of node 1 is lost in slot 2
--- and carried in slot 3, which the new incarnation of node 0 hears: it relays it too. So that the row is short, the bound has one slot, which the formulas do
--- not allow; the law does not ask for them.
+-- With a restart it may be carried more often than there are nodes. Node 0 sends in slot 1, stops,
+-- and starts again; the relay of node 1 is lost in slot 2 and carried in slot 3, which the new
+-- incarnation of node 0 hears: it relays it too. So that the row is short, the bound has one slot,
+-- which the formulas do not allow; the law does not ask for them.
 unfoldable with_restart : ScenarioParts
 with_restart =
     let sc = two 8 (send Ed 0 0 (1 ∷ []) ∷ []) (slot_rule 1 Clean 1 ∷ slot_rule 2 Lost 0 ∷ []) (again 1 0 ∷ []) in
@@ -131,7 +135,8 @@ as_often_as_incarnations : times_clean (data_id first_message) its_restart_run.t
 unfolding row its_restart_run with_restart first_message incarnations_of_first
 as_often_as_incarnations = refl
 
--- A RELCAN message as often as there are nodes: its origin stops before it has confirmed it, and the other node falls back.
+-- A RELCAN message as often as there are nodes: its origin stops before it has confirmed it, and
+-- the other node falls back.
 unfoldable unconfirmed : ScenarioParts
 unconfirmed = two 14 (send Rel 0 0 (1 ∷ []) ∷ []) (slot_rule 1 Clean 1 ∷ []) []
 

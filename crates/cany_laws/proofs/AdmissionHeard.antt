@@ -1,4 +1,5 @@
--- A JOIN that was carried Clean is got by each incarnation that reads its slot and takes part in it, but for the node that it names.
+-- A JOIN that was carried Clean is got by each incarnation that reads its slot and takes part in
+-- it, but for the node that it names.
 use Rattle.std.proofs.Common.{◌≡◌, ◌≢◌, ℕ, ◌+◌, ◌-◌, ◌<◌, ◌≤◌, inl, inr, false, List, [], ◌∷◌, ◌++◌, length, map, drop, Some, refl, ap, sym, ◌∙◌, subst, arith, drop-drop, length-append}
 use Rattle.std.specs.List.{AllByRecursion}
 use Rattle.std.proofs.Math.Seq.{drop-append_seam}

@@ -1,4 +1,5 @@
--- A node whose JOIN counts comes into each vector with which a member starts the next cycle, if no vector of the cycle before has it.
+-- A node whose JOIN counts comes into each vector with which a member starts the next cycle, if no
+-- vector of the cycle before has it.
 use Rattle.std.proofs.Common.{◌≡◌, ◌≢◌, ℕ, zero, suc, ◌+◌, ◌-◌, ◌*◌, ◌<◌, ◌≤◌, ◌⊎◌, inl, inr, true, false, List, ◌∷◌, length, Option, Some, None, refl, ap, sym, ◌∙◌, subst, arith}
 use Rattle.std.proofs.Math.Nat.{mul-le-mul_right}
 use Rattle.std.proofs.lemmas.Bool.{both_ways, cases_Bool, cases_eq, cases_lt}

@@ -1,5 +1,5 @@
--- An incarnation that runs after a front of the journal is one of the whole run, which has read no less, and the same of the slots that it had read
--- by then.
+-- An incarnation that runs after a front of the journal is one of the whole run, which has read no
+-- less, and the same of the slots that it had read by then.
 use Rattle.std.proofs.Common.{◌≡◌, ℕ, ◌+◌, ◌-◌, ◌<◌, ◌≤◌, inl, inr, List, [], ◌∷◌, ◌++◌, length, map, drop, refl, ap, sym, ◌∙◌, subst, arith, drop-drop, length-append}
 use Rattle.std.proofs.Math.Seq.{drop-append_seam}
 use Rattle.std.proofs.lemmas.Bool.{cases_eq}

@@ -1,4 +1,5 @@
--- A node whose JOIN counts is in the vector of the cycle that starts next, or was in that of the cycle before.
+-- A node whose JOIN counts is in the vector of the cycle that starts next, or was in that of the
+-- cycle before.
 use Rattle.std.proofs.Common.{◌≡◌, ℕ, zero, suc, ◌+◌, ◌-◌, ◌*◌, ◌<◌, ◌≤◌, ◌⊎◌, inl, inr, true, false, Bool, List, [], ◌∷◌, ◌++◌, length, drop, Option, Some, None, refl, ap, sym, ◌∙◌, subst, arith}
 use Rattle.std.specs.List.{AllByRecursion}
 use Rattle.std.proofs.lemmas.Bool.{cases_Bool, cases_eq, cases_lt}

@@ -1,4 +1,5 @@
--- Where the vectors with which members start a cycle agree on a node, all vectors of the cycle do, and so does what any incarnation installs at its end.
+-- Where the vectors with which members start a cycle agree on a node, all vectors of the cycle do,
+-- and so does what any incarnation installs at its end.
 use Rattle.std.proofs.Common.{◌≡◌, ℕ, suc, ◌+◌, ◌-◌, ◌*◌, ◌<◌, ◌≤◌, ◌==◌, ◌&&◌, inl, inr, Bool, true, false, List, [], ◌∷◌, ◌++◌, length, drop, Some, None, Contains, ap, sym, ◌∙◌, subst, arith, drop-drop, length-drop, append_assoc, refl}
 use Rattle.std.proofs.lemmas.Bool.{and_from, both_ways, cases_Bool, cases_eq, cases_lt, cond-true, eq-eqb}
 use Rattle.cany_base.specs.Cycles.{cycle_of, is_end}

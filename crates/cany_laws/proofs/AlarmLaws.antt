@@ -1,4 +1,5 @@
--- No log tells that a node has failed of which no incarnation stopped long before; and one that runs in its first incarnation is taken for failed nowhere.
+-- No log tells that a node has failed of which no incarnation stopped long before; and one that
+-- runs in its first incarnation is taken for failed nowhere.
 use Rattle.std.proofs.Common.{◌≡◌, ℕ, suc, ◌+◌, ◌-◌, ◌<◌, ◌≤◌, inl, inr, true, List, [], ◌∷◌, length, drop, Some, refl, ap, sym, ◌∙◌, subst, arith, length-drop}
 use Rattle.std.specs.Prelude.{Contains, is_none}
 use Rattle.std.proofs.lemmas.Bool.{both_ways}

@@ -1,5 +1,5 @@
--- What an incarnation knows, slot by slot, of its view and of the life of the nodes in it; and that one which has a node in its view has heard the last life
--- of that node's first incarnation.
+-- What an incarnation knows, slot by slot, of its view and of the life of the nodes in it; and that
+-- one which has a node in its view has heard the last life of that node's first incarnation.
 use Rattle.std.proofs.Common.{◌≡◌, ℕ, zero, suc, ◌+◌, ◌-◌, ◌*◌, ◌<◌, ◌≤◌, ◌⊎◌, inl, inr, true, false, List, ◌∷◌, length, map, drop, Option, Some, None, refl, ap, sym, ◌∙◌, subst, arith, drop-drop}
 use Rattle.std.proofs.lemmas.Bool.{both_ways, cases_Bool, cases_eq, false≢true, ne_eqb}
 use Rattle.cany_base.proofs.NodesFacts.{has_none}

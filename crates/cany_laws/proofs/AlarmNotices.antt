@@ -1,4 +1,5 @@
--- What each slot gave the incarnations that have read it: one that takes part hears the life that another node has shown in it.
+-- What each slot gave the incarnations that have read it: one that takes part hears the life that
+-- another node has shown in it.
 use Rattle.std.proofs.Common.{◌≡◌, ℕ, zero, suc, ◌+◌, ◌-◌, ◌*◌, ◌<◌, ◌≤◌, inl, inr, false, List, [], ◌∷◌, ◌++◌, length, drop, Some, refl, ap, sym, ◌∙◌, subst, arith, length-append, length-drop, get_or, nat_lt, ltb-true}
 use Rattle.std.specs.List.{AllByRecursion}
 use Rattle.std.proofs.Math.Nat.{mul-le-mul_right}
@@ -91,7 +92,8 @@ module _ (scenario : ScenarioParts) (legal : IsLegalScenario scenario) (journal 
       ∙ ap (as_seen e.incarnation) (note_older s.trace part.0 c.trace n part.1 (omega (arith, next, read))))
       (each_at (Heard i) (seen e.incarnation c.trace) k no_note (subst (λ m. k < m) (sym (length-map c.trace (as_seen e.incarnation))) below) all)
 
-  -- it sees a slot after the end of a cycle since whose start it takes part, unless that carries a vector of a later one
+  -- it sees a slot after the end of a cycle since whose start it takes part, unless that carries a
+  -- vector of a later one
   pub plain_after : (i n k : ℕ) (e : EndedIncarnation) → Lived scenario journal i e → n < e.next → e.incarnation.from ≤ k * scenario.params.cycle
       → k * scenario.params.cycle + scenario.params.bound ≤ n → (f : FrameParts) → (note_in s.trace n).frame ≡ Some f
       → is_hidden e.incarnation (note_in s.trace n) ≡ false
@@ -130,7 +132,8 @@ module _ (scenario : ScenarioParts) (legal : IsLegalScenario scenario) (journal 
   own_is r n f l read first =
       next_is r n f l read ∙ ap (given r) (seen_plain f.incarnation (note_in s.trace n) (plain_original f.incarnation (note_in s.trace n) first))
 
-  -- life that a slot has shown node r of itself, an incarnation of another node has heard that sees the slot
+  -- life that a slot has shown node r of itself, an incarnation of another node has heard that sees
+  -- the slot
   pub hears : (within : IsWithin scenario.params (run scenario journal).trace) (r j n : ℕ) (e : EndedIncarnation) → (r ≡ j → ⊥)
       → Lived scenario journal j e → j < scenario.params.nodes → n < e.next
       → ((g : FrameParts) → (note_in s.trace n).frame ≡ Some g → is_hidden e.incarnation (note_in s.trace n) ≡ false)

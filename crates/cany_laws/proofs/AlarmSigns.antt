@@ -1,5 +1,6 @@
--- A failure sign of a node is known to an incarnation only where an incarnation of that node stopped long before. By induction on slots: a sign comes by a
--- frame, which one sent that knew it before, or by silence.
+-- A failure sign of a node is known to an incarnation only where an incarnation of that node
+-- stopped long before. By induction on slots: a sign comes by a frame, which one sent that knew it
+-- before, or by silence.
 use Rattle.std.proofs.Common.{◌≡◌, ℕ, zero, suc, ◌+◌, ◌-◌, ◌<◌, ◌≤◌, ◌⊎◌, ◌&&◌, ◌==◌, not, nat_le, inl, inr, Bool, true, false, List, ◌∷◌, ◌++◌, length, Some, refl, ap, sym, ◌∙◌, subst, arith, get_or, leb-true}
 use Rattle.std.specs.Prelude.{Contains}
 use Rattle.std.proofs.lemmas.Bool.{and_from, and_parts, both_ways, cases_Bool, eq-eqb, eqb-true, not-true}

@@ -1,4 +1,5 @@
--- What becomes of the incarnations of a node while a run goes on: each stays, has read no less, and if it has stopped, has stopped where it did.
+-- What becomes of the incarnations of a node while a run goes on: each stays, has read no less, and
+-- if it has stopped, has stopped where it did.
 use Rattle.std.proofs.Common.{◌≡◌, ℕ, suc, ◌-◌, ◌<◌, ◌≤◌, ◌⊎◌, inl, inr, Bool, true, false, if◌then◌else◌, List, [], ◌∷◌, ◌++◌, length, Option, Some, None, refl, ap, sym, ◌∙◌, subst, arith}
 use Rattle.std.specs.Prelude.{is_none}
 use Rattle.std.proofs.lemmas.Bool.{both_ways, cases_eq}

@@ -1,4 +1,5 @@
--- Where no frame may be omitted, the origin alone sends the frame that accepts its message: so it is carried Clean once at most.
+-- Where no frame may be omitted, the origin alone sends the frame that accepts its message: so it
+-- is carried Clean once at most.
 use Rattle.std.proofs.Common.{◌≡◌, ℕ, zero, suc, ◌+◌, ◌≤◌, ◌&&◌, inl, inr, true, List, [], ◌∷◌, refl, ap, sym, ◌∙◌, subst, arith}
 use Rattle.std.proofs.lemmas.Bool.{and_parts, both_ways, cases_eq, cond_both, false≢true, le-leb}
 use Rattle.cany_base.specs.declared.class.Class.TheVariants as class

@@ -1,4 +1,5 @@
--- How often the bus carries one frame Clean: no more often than nodes, or their incarnations, send it.
+-- How often the bus carries one frame Clean: no more often than nodes, or their incarnations, send
+-- it.
 use Rattle.std.proofs.Common.{◌≡◌, ℕ, ◌≤◌, inl, inr, Bool, List, [], length, count_by, ap, sym, ◌∙◌, subst, arith}
 use Rattle.std.proofs.lemmas.Bool.{cases_lt}
 use Rattle.std.proofs.lemmas.List.{length-replicate}

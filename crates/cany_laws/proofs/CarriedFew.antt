@@ -1,4 +1,5 @@
--- How often the bus carries the frames of a TOTCAN message, and that of a failure sign, Clean: all bounds.
+-- How often the bus carries the frames of a TOTCAN message, and that of a failure sign, Clean: all
+-- bounds.
 use Rattle.std.specs.Prelude.{◌≡◌, ◌≤◌, false, List}
 use Rattle.std.proofs.Common.{refl, arith}
 use Rattle.std.proofs.lemmas.List.Elements.{recursion_from_All}

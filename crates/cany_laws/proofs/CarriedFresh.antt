@@ -1,4 +1,5 @@
--- No node asks for the frame that accepts a message, or for that of a failure sign, once it has read a slot that carried it Clean.
+-- No node asks for the frame that accepts a message, or for that of a failure sign, once it has
+-- read a slot that carried it Clean.
 use Rattle.std.proofs.Common.{◌≡◌, ℕ, suc, ◌-◌, ◌≤◌, inl, inr, true, List, [], ◌∷◌, refl, ap, sym, ◌∙◌, subst, arith}
 use Rattle.std.proofs.lemmas.Bool.{both_ways, cases_lt}
 use Rattle.cany_base.specs.declared.message.MsgKey.{MsgKey}

@@ -1,5 +1,6 @@
--- What a turn asks for of a RELCAN message: its data frame by the origin in the scripted slot, or when another node falls back; and the frame that confirms
--- it when the origin reads that it has sent the data frame.
+-- What a turn asks for of a RELCAN message: its data frame by the origin in the scripted slot, or
+-- when another node falls back; and the frame that confirms it when the origin reads that it has
+-- sent the data frame.
 use Rattle.std.specs.Prelude.{slice_index_or}
 use Rattle.std.proofs.Common.{◌≡◌, ℕ, ◌==◌, ◌&&◌, ◌⊎◌, inl, inr, true, false, not, List, [], ◌∷◌, drop, refl, ap, sym, ◌∙◌, subst}
 use Rattle.std.proofs.lemmas.Bool.{and_parts, cond_both, eqb-true, not-true}
@@ -76,7 +77,8 @@ of_relcan scenario i past x c h =
 
 -- ---- what RELCAN asks for
 
--- the newest notice is that of node i's own transmission of a data frame of its own, whose message the frame confirms
+-- the newest notice is that of node i's own transmission of a data frame of its own, whose message
+-- the frame confirms
 pub record IsConfirming (i : ℕ) (x : Identity) (e : NoticeKind) : Type 0 where
   pub frame : FrameParts
   pub was : e ≡ Sent frame

@@ -1,4 +1,5 @@
--- A node sends a frame no more often than its turns ask for it, through all its incarnations; and the bus carries it Clean no more often than it is sent.
+-- A node sends a frame no more often than its turns ask for it, through all its incarnations; and
+-- the bus carries it Clean no more often than it is sent.
 use Rattle.std.proofs.Common.{◌≡◌, ℕ, zero, suc, ◌+◌, ◌<◌, ◌≤◌, inl, inr, Bool, true, false, List, [], ◌∷◌, length, count_by, ap, sym, ◌∙◌, subst, arith}
 use Rattle.std.proofs.lemmas.Bool.{and_parts, cases_Bool, cases_eq}
 use Rattle.cany_base.specs.declared.notice.NoticeKind.{NoticeKind}

@@ -1,4 +1,5 @@
--- Nodes that wait with one frame send it together: so one that no node asks for after it has read it is carried Clean at most lag + 2 times.
+-- Nodes that wait with one frame send it together: so one that no node asks for after it has read
+-- it is carried Clean at most lag + 2 times.
 use Rattle.std.proofs.Common.{◌≡◌, ℕ, zero, suc, ◌+◌, ◌<◌, ◌≤◌, ◌⊎◌, inl, inr, Bool, true, false, List, [], ◌∷◌, count_by, ap, sym, ◌∙◌, subst, arith, Contains}
 use Rattle.std.proofs.lemmas.Bool.{and_parts, both_ways, cases_Bool, cases_eq, cases_lt, false≢true}
 use Rattle.std.proofs.lemmas.List.Elements.{All-contains, All-from_recursion}
@@ -69,7 +70,8 @@ gap_few t L (note ∷ T) h = elim (cases_Bool (t note)) [
 
 -- ---- a frame that no node asks for after it has read it
 
--- a turn makes a node wait with it only where no slot that the node had read before has carried it Clean
+-- a turn makes a node wait with it only where no slot that the node had read before has carried it
+-- Clean
 abbrev pub IsFresh : ScenarioParts → Identity → Type 0
 IsFresh scenario x =
     (s : RunState) → IsOfRun scenario s → NoSilent s.trace → (i : ℕ) → MayTurn s i → waits x (node_at (after_turn scenario i s).nodes i).waiting ≡ true
@@ -79,7 +81,8 @@ module _ (scenario : ScenarioParts) (few : scenario.params.nodes ≤ most_nodes)
   abbrev lag : ℕ
   lag = scenario.params.lag
 
-  -- the slots that carried it Clean lie no more than the lag apart, but for the newest; and all of them, once a node waits with it again
+  -- the slots that carried it Clean lie no more than the lag apart, but for the newest; and all of
+  -- them, once a node waits with it again
   record Together (s : RunState) : Type 0 where
     gap : (a b c : ℕ) → a < b → b ≤ c → Clean s.trace a x → Clean s.trace b x → Clean s.trace c x → c ≤ b + scenario.params.lag
     since : (i : ℕ) → runs (node_at s.nodes i) ≡ true → waits x (node_at s.nodes i).waiting ≡ true

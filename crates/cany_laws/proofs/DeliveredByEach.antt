@@ -1,4 +1,5 @@
--- A TOTCAN message is delivered by the incarnations of all nodes that have read its closing, or by none of them.
+-- A TOTCAN message is delivered by the incarnations of all nodes that have read its closing, or by
+-- none of them.
 use Rattle.std.proofs.Common.{◌≡◌, ℕ, ◌+◌, ◌-◌, ◌≤◌, ◌&&◌, inl, inr, Bool, true, nat_le, if◌then◌else◌, List, [], ◌∷◌, drop, Option, Some, None, refl, ap, sym, ◌∙◌, subst, arith, Contains}
 use Rattle.std.specs.List.{range_with_len}
 use Rattle.std.proofs.lemmas.Bool.{and_parts, cond_both}

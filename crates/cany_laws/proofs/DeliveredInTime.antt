@@ -1,4 +1,5 @@
--- A TOTCAN message that was carried Clean in slot c and is accepted, is delivered in the slots from c to c + bound.
+-- A TOTCAN message that was carried Clean in slot c and is accepted, is delivered in the slots from
+-- c to c + bound.
 use Rattle.std.proofs.Common.{◌≡◌, ℕ, zero, suc, ◌+◌, ◌-◌, ◌<◌, ◌≤◌, ◌==◌, count_by, inl, inr, true, false, Option, Some, None, List, [], ◌∷◌, ◌++◌, length, drop, refl, ap, sym, ◌∙◌, subst, arith, Contains, drop-drop, length-append, length-drop}
 use Rattle.std.proofs.lemmas.Bool.{and_from, cases_lt, eq-eqb, false≢true}
 use Rattle.std.proofs.lemmas.List.{get_or-append-add, get_or_default}
@@ -87,7 +88,8 @@ done_later trace newer older split q key d =
     ap (λ t. carries_clean (tot_of_key key) (note_at t (length newer + q))) split
     ∙ ap (carries_clean (tot_of_key key)) (get_or-append-add newer older q no_note) ∙ d
 
--- a slot that carried a data frame of TOTCAN, and is not before the first in which an incarnation takes part, it sees
+-- a slot that carried a data frame of TOTCAN, and is not before the first in which an incarnation
+-- takes part, it sees
 pub sees_data : (inc : Incarnation) (note : SlotNote) (key : MsgKey) → inc.from ≤ note.slot → carried (is_of (tot_of_key key)) note ≡ true → is_hidden inc note ≡ false
 sees_data inc note key late h = by_frame note.frame refl
   where

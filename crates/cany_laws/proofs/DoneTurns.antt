@@ -1,5 +1,6 @@
--- A turn in which no frame of a message is asked for, once it was dealt with: nothing of it is ahead at the node, its notice brings no frame of it, its scripted slot
--- was read, and its origin has asked for it or came too late.
+-- A turn in which no frame of a message is asked for, once it was dealt with: nothing of it is
+-- ahead at the node, its notice brings no frame of it, its scripted slot was read, and its origin
+-- has asked for it or came too late.
 use Rattle.std.proofs.Common.{◌≡◌, ℕ, zero, suc, ◌+◌, ◌<◌, ◌≤◌, ◌&&◌, ◌==◌, ◌⊎◌, inl, inr, Bool, true, false, not, List, [], ◌∷◌, ◌++◌, filter, map, length, take, drop, slice_index_or, Option, Some, None, refl, ap, sym, ◌∙◌, subst, arith, length-drop}
 use Rattle.std.specs.List.{AllByRecursion, list_any}
 use Rattle.std.proofs.lemmas.Bool.{and_from, and_parts, and_right, both_ways, cond_both, eqb-true, false_from_ne_true, false≢true, not-true, not_from_false, or_cases, or_left, or_right}
@@ -138,7 +139,8 @@ any_taken test (suc n) (x ∷ xs) h = elim (or_cases (test x) (list_any test (ta
 
 -- ---- what is ahead
 
--- nothing of the message is ahead at the node, and if it is its origin, it has asked for it or came too late
+-- nothing of the message is ahead at the node, and if it is its origin, it has asked for it or came
+-- too late
 pub record IsDone (scenario : ScenarioParts) (m : Message) (i : ℕ) (past : List NoticeKind) : Type 0 where
   pub timer : has_timer_ahead scenario m i past ≡ false
   pub closing : has_closing_ahead scenario m i past ≡ false
@@ -218,7 +220,8 @@ done_next scenario m i e past confirm bound free done = record {
 
 -- ---- a turn
 
--- a node that has read only idle slots, none of which is one whose scripted asks are made, has nothing of it ahead
+-- a node that has read only idle slots, none of which is one whose scripted asks are made, has
+-- nothing of it ahead
 recent_idle : (n : ℕ) (key : MsgKey) (past : List NoticeKind) → AreIdle past → list_any (holds key) (take n past) ≡ false
 recent_idle zero key past idle = refl
 recent_idle (suc n) key [] idle = refl

@@ -1,4 +1,5 @@
--- The vectors, views and acceptances of all incarnations, from those of nodes that run, by a journal in which both have read the same.
+-- The vectors, views and acceptances of all incarnations, from those of nodes that run, by a
+-- journal in which both have read the same.
 use Rattle.std.proofs.Common.{◌≡◌, ℕ, zero, suc, ◌+◌, ◌-◌, ◌*◌, ◌<◌, ◌≤◌, inl, inr, List, [], ◌∷◌, ◌++◌, length, drop, refl, ap, sym, ◌∙◌, subst, arith, length-append}
 use Rattle.std.specs.Prelude.{Option, Some, None}
 use Rattle.std.proofs.Math.Seq.{drop-append_seam}

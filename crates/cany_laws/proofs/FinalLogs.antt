@@ -1,4 +1,5 @@
--- What became of a settled message is final: it stays settled, no later slot carries a frame of it, and no log has a delivery of it in a later slot.
+-- What became of a settled message is final: it stays settled, no later slot carries a frame of it,
+-- and no log has a delivery of it in a later slot.
 use Rattle.std.proofs.Common.{◌≡◌, ℕ, suc, ◌<◌, ◌≤◌, ◌⊎◌, inl, inr, true, List, [], ◌∷◌, ◌++◌, length, map, drop, refl, ap, sym, ◌∙◌, subst, arith, Contains, length-append, length-drop}
 use Rattle.std.specs.List.{AllByRecursion}
 use Rattle.std.proofs.lemmas.Bool.{cases_eq}

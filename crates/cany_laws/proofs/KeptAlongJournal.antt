@@ -19,7 +19,8 @@ use Rattle.cany_model.proofs.Runs.Steps.{MayTurn, after_slot-node, after_turn-no
 
 -- ---- along a journal
 
--- what holds of a front, and of each journal with a step more, holds of all that begin with the front
+-- what holds of a front, and of each journal with a step more, holds of all that begin with the
+-- front
 pub along_rest : (P : List Step → Type 0) → ((journal : List Step) (next : Step) → P journal → P (journal ++ next ∷ [])) → (front rest : List Step) → P front
     → P (front ++ rest)
 along_rest P more front [] p = subst P (sym (append-nil front)) p

@@ -1,4 +1,5 @@
--- Each incarnation of a node ran when a front of the journal ended, and had then read all that it has read.
+-- Each incarnation of a node ran when a front of the journal ended, and had then read all that it
+-- has read.
 use Rattle.std.proofs.Common.{◌≡◌, ℕ, suc, ◌+◌, ◌-◌, ◌<◌, ◌≤◌, inl, inr, true, List, [], ◌∷◌, ◌++◌, length, refl, ap, sym, ◌∙◌, subst, arith, append-nil, append_assoc}
 use Rattle.std.specs.List.{AllByRecursion}
 use Rattle.std.proofs.lemmas.Bool.{cases_eq}
@@ -21,7 +22,8 @@ use Rattle.cany_model.proofs.Runs.Steps.{MayTurn, after_slot-present, after_slot
 use Rattle.cany_laws.specs.Logs.{IsIncarnation, present_of}
 use Rattle.cany_laws.proofs.KeptAlongJournal.{after_slot-ended, after_turn-ended, along_pushes, ended_history-longer, pushed}
 
--- after a front of the journal the node ran in this incarnation, and had read what it has read in all
+-- after a front of the journal the node ran in this incarnation, and had read what it has read in
+-- all
 pub record Lived (scenario : ScenarioParts) (journal : List Step) (i : ℕ) (e : EndedIncarnation) : Type 0 where
   pub front : List Step
   pub rest : List Step

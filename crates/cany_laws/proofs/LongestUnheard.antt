@@ -1,5 +1,6 @@
--- How long an incarnation that has a node in its view can go without hearing it: where that node ran in its first incarnation in a quiet state, not longer
--- before that than the life interval and the lag.
+-- How long an incarnation that has a node in its view can go without hearing it: where that node
+-- ran in its first incarnation in a quiet state, not longer before that than the life interval and
+-- the lag.
 use Rattle.std.proofs.Common.{◌≡◌, ℕ, suc, ◌+◌, ◌-◌, ◌<◌, ◌≤◌, inl, inr, true, List, [], ◌∷◌, ◌++◌, length, map, drop, refl, ap, sym, ◌∙◌, subst, arith, drop-drop, length-append}
 use Rattle.std.specs.Prelude.{Contains}
 use Rattle.std.proofs.Math.Seq.{drop-append_seam}
@@ -38,7 +39,8 @@ use Rattle.cany_model.proofs.Timed.Views.StartViews.{front_split}
 
 -- ---- an incarnation goes on
 
--- after a front of the journal the node had this incarnation, and what it had read then is the first of what it has read in all
+-- after a front of the journal the node had this incarnation, and what it had read then is the
+-- first of what it has read in all
 pub record Goes (scenario : ScenarioParts) (journal front : List Step) (i : ℕ) : Type 0 where
   pub to : EndedIncarnation
   pub is : IsIncarnation scenario (run scenario journal) i to

@@ -1,4 +1,5 @@
--- A turn delivers no message of which nothing is ahead any more, where its notice brings no frame of it.
+-- A turn delivers no message of which nothing is ahead any more, where its notice brings no frame
+-- of it.
 use Rattle.std.proofs.Common.{◌≡◌, ℕ, zero, suc, ◌+◌, ◌<◌, ◌&&◌, ◌||◌, ◌==◌, inl, inr, Bool, true, false, not, List, [], ◌∷◌, ◌++◌, map, length, take, drop, count_by, Option, Some, None, refl, ap, sym, ◌∙◌, arith}
 use Rattle.std.specs.List.{AllByRecursion, list_any}
 use Rattle.std.proofs.lemmas.Bool.{and_from, and_parts, both_ways, cases_Bool, cond_both, eq-eqb, false_from_ne_true, false≢true, not_from_false, or_right}
@@ -199,7 +200,8 @@ unfolding delivered done_from
 done_is_delivered p i key [] h = h
 done_is_delivered p i key (e ∷ before) h = with_new_has key (delivered p i before) (done p i (e ∷ before)) h
 
--- a message that is done after the turn was done before it, where its notice brings no frame of it and it was closed
+-- a message that is done after the turn was done before it, where its notice brings no frame of it
+-- and it was closed
 module _ (p : Parameters) (m : Message) (i : ℕ) (e : NoticeKind) (before : List NoticeKind) (tot : m.service ≡ Tot) (free : FreeNotice m e)
     (closed : is_recent p.bound (message_key m) before ≡ false) where
   abbrev key : MsgKey

@@ -1,4 +1,5 @@
--- The TOTCAN deliveries of each incarnation are part of one sequence: the messages in the order of the slots in which their data frames were carried Clean.
+-- The TOTCAN deliveries of each incarnation are part of one sequence: the messages in the order of
+-- the slots in which their data frames were carried Clean.
 use Rattle.std.proofs.Common.{◌≡◌, ℕ, suc, ◌+◌, ◌<◌, ◌≤◌, ◌&&◌, ◌==◌, inl, inr, Bool, true, false, nat_le, if◌then◌else◌, List, [], ◌∷◌, ◌++◌, count_by, Option, Some, None, refl, ap, sym, ◌∙◌, subst, arith, append_assoc}
 use Rattle.std.proofs.lemmas.Bool.{and_parts, cases_Bool, cases_lt, cond_both, eqb-true}
 use Rattle.std.proofs.lemmas.List.Sums.{sum_by-append}

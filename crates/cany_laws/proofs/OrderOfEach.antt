@@ -1,4 +1,5 @@
--- What each incarnation has delivered by TOTCAN is a prefix of the order of the messages that it or a running node has accepted.
+-- What each incarnation has delivered by TOTCAN is a prefix of the order of the messages that it or
+-- a running node has accepted.
 use Rattle.std.proofs.Common.{◌≡◌, ℕ, suc, ◌+◌, ◌-◌, ◌<◌, ◌≤◌, inl, inr, Bool, true, List, ◌++◌, length, map, drop, ap, sym, ◌∙◌, subst, arith, Contains, drop-drop}
 use Rattle.std.proofs.lemmas.Bool.{and_parts, or_cases, or_left}
 use Rattle.std.proofs.lemmas.List.{drop-map, get_or_default, map-append}

@@ -1,4 +1,5 @@
--- A running node reads all that there is, and no other node changes: so what it has accepted, each incarnation accepts that has read the closing.
+-- A running node reads all that there is, and no other node changes: so what it has accepted, each
+-- incarnation accepts that has read the closing.
 use Rattle.std.proofs.Common.{◌≡◌, ℕ, ◌+◌, ◌-◌, ◌<◌, ◌≤◌, ◌&&◌, inl, inr, true, false, List, ◌∷◌, ◌++◌, length, map, drop, refl, ap, sym, ◌∙◌, subst, arith, Contains}
 use Rattle.std.specs.List.{range_with_len}
 use Rattle.std.proofs.lemmas.Bool.{and_parts, cases_eq, cases_lt, both_ways}
@@ -169,7 +170,8 @@ module _ (scenario : ScenarioParts) (legal : IsLegalScenario scenario) where
         ]
       ]
 
-    -- what a running node has accepted by now, each incarnation that takes part since its data frame was carried Clean, and has read the closing, accepted in time
+    -- what a running node has accepted by now, each incarnation that takes part since its data
+    -- frame was carried Clean, and has read the closing, accepted in time
     pub accepted_in_time_by_each : (key : MsgKey) (c : ℕ) → WasCarriedClean (run scenario journal).trace key c
         → is_accepted_by_some scenario (run scenario journal) key ≡ true → (i : ℕ) (e : EndedIncarnation) → HasReadClosingAs scenario (run scenario journal) c i e
         → accepted_in_time_as scenario (run scenario journal) key c i e ≡ true

@@ -1,4 +1,5 @@
--- A node that runs now, and has been in its incarnation since a slot, was in it and ran when a later slot was run, and had then read the same up to that slot.
+-- A node that runs now, and has been in its incarnation since a slot, was in it and ran when a
+-- later slot was run, and had then read the same up to that slot.
 use Rattle.std.proofs.Common.{◌≡◌, ℕ, suc, ◌+◌, ◌-◌, ◌<◌, ◌≤◌, ◌⊎◌, inl, inr, true, List, [], ◌∷◌, ◌++◌, length, map, drop, refl, ap, sym, ◌∙◌, subst, arith, drop-drop, length-append}
 use Rattle.std.proofs.Math.Seq.{drop-append_seam}
 use Rattle.cany_base.specs.declared.step.Step.{Step}
@@ -16,7 +17,8 @@ use Rattle.cany_model.proofs.Runs.Steps.{MayTurn, after_slot-present, after_slot
 use Rattle.cany_laws.proofs.KeptAlongJournal.{drop-map, IsKeptOn, kept_on, one_longer}
 use Rattle.cany_model.proofs.Timed.Views.StartViews.{front_split}
 
--- node i began again after slot t, or is in the incarnation that it was in then, and ran then if it runs
+-- node i began again after slot t, or is in the incarnation that it was in then, and ran then if it
+-- runs
 pub record IsSince (then : RunState) (t i : ℕ) (s : RunState) : Type 0 where
   pub grown : t ≤ length s.trace
   pub present : (t < (node_at s.nodes i).present.since)

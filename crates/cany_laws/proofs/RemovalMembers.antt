@@ -1,4 +1,5 @@
--- A member that starts a cycle and reads it to its end installs a vector; and where nobody installs one in a cycle, nobody does in the next.
+-- A member that starts a cycle and reads it to its end installs a vector; and where nobody installs
+-- one in a cycle, nobody does in the next.
 use Rattle.std.proofs.Common.{◌≡◌, ℕ, zero, suc, ◌+◌, ◌-◌, ◌*◌, ◌<◌, ◌≤◌, ◌⊎◌, inl, inr, Bool, true, false, List, ◌∷◌, length, Option, Some, None, refl, ap, sym, ◌∙◌, subst, arith}
 use Rattle.std.proofs.Math.Nat.{mul-le-mul_right}
 use Rattle.std.proofs.lemmas.Bool.{both_ways, cases_Bool, cases_lt, cond-true}
@@ -44,7 +45,8 @@ module _ (scenario : ScenarioParts) (journal : List Step) (i q n : ℕ) (e : End
   InstalledIn d = (c : ℕ) × (v : Nodes) × (n ≤ c * scenario.params.cycle + scenario.params.bound) × (c * scenario.params.cycle + scenario.params.bound < n + d)
       × (installed_as scenario (run scenario journal) i e c ≡ Some v)
 
-  -- one that comes into the view between two slots comes by such a vector, and so one that leaves it
+  -- one that comes into the view between two slots comes by such a vector, and so one that leaves
+  -- it
   pub view_changes : (b : Bool) → has (View n) q ≡ b → (d : ℕ) → n + d ≤ e.next → (has (View (n + d)) q ≡ b) ⊎ InstalledIn d
   view_changes b first zero short = let same : n ≡ n + 0 = omega arith in inl (subst (λ m. has (View m) q ≡ b) same first)
   view_changes b first (suc d) short = elim (view_changes b first d (omega (arith, short))) [

@@ -1,4 +1,5 @@
--- A node of whom a member hears nothing for a silence, and of whom nobody got a JOIN, is out of the vector of the cycle that starts then.
+-- A node of whom a member hears nothing for a silence, and of whom nobody got a JOIN, is out of the
+-- vector of the cycle that starts then.
 use Rattle.std.proofs.Common.{◌≡◌, ℕ, zero, suc, ◌+◌, ◌-◌, ◌*◌, ◌/◌, ◌%◌, ◌<◌, ◌≤◌, ◌⊎◌, inl, inr, Bool, true, false, List, length, Option, Some, None, refl, ap, sym, ◌∙◌, subst, arith, div-mul-le_self}
 use Rattle.std.proofs.Math.Nat.{mul-le-mul_right}
 use Rattle.std.proofs.lemmas.Bool.{both_ways, cases_Bool, cases_eq, cases_lt}

@@ -1,4 +1,5 @@
--- How often the bus carries the frame of a failure sign: no more often than its nodes have had incarnations.
+-- How often the bus carries the frame of a failure sign: no more often than its nodes have had
+-- incarnations.
 use Rattle.std.proofs.Common.{Bool, List, ap, arith, count_by, drop, false, inl, inr, length, map, refl, subst, sym, true, ℕ, ◌+◌, ◌<◌, ◌∙◌, ◌∷◌, ◌≡◌, ◌≤◌}
 use Rattle.std.proofs.lemmas.Bool.{cases_eq}
 use Rattle.cany_base.specs.declared.slot_note.SlotNote.{SlotNote}
@@ -36,7 +37,8 @@ module _ (scenario : ScenarioParts) (sign : FailureSign) where
   abbrev known_at : RunState → ℕ → Bool
   known_at s i = knows sign (knowledge_of (scenario_at scenario s i) i (history i s))
 
-  -- how many incarnations of node i have ended, and the present one with them once it knows the sign
+  -- how many incarnations of node i have ended, and the present one with them once it knows the
+  -- sign
   abbrev knowing : ℕ → RunState → ℕ
   knowing i s = length (node_at s.nodes i).ended + one_if (known_at s i)
 

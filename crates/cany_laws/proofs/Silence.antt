@@ -1,4 +1,5 @@
--- A member that is not heard for as long as the silence has failed, unless the sign of this cycle was known before.
+-- A member that is not heard for as long as the silence has failed, unless the sign of this cycle
+-- was known before.
 use Rattle.std.proofs.Common.{◌≡◌, ℕ, ◌+◌, ◌<◌, ◌≤◌, ◌==◌, ◌⊎◌, inl, inr, true, false, List, ◌∷◌, length, ap, sym, ◌∙◌, arith}
 use Rattle.std.proofs.lemmas.Bool.{and_from, both_ways, cond-false, eq-eqb, or_cases}
 use Rattle.cany_base.specs.Limits.{most_nodes}
@@ -64,7 +65,8 @@ module _ (scenario : ScenarioParts) (i r : ℕ) (e : NoticeKind) (past : List No
     | inl now ↦ inr (found_fails (named_fails sign node (Among-from_any (same_sign sign) (newly scenario.params i slot e st) now)))
   ]
 
-  -- a member that was not heard since a slot, so long before this one, has failed after the turn, unless its sign was known
+  -- a member that was not heard since a slot, so long before this one, has failed after the turn,
+  -- unless its sign was known
   pub silent_fails : r < scenario.params.nodes → (r ≡ i → ⊥) → hears_life r e ≡ false → (last : ℕ) → st.shown r ≤ last → last + scenario.params.silence ≤ slot
       → knows (sign_in scenario.params slot r) st ≡ false → has (knowledge_of scenario i (e ∷ past)).failed r ≡ true
   silent_fails below other nothing last old late unknown =

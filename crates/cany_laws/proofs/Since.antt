@@ -1,4 +1,5 @@
--- What holds of each incarnation: it takes part since the slot from which on it has notices or since a later one, and that of the opening since slot 0.
+-- What holds of each incarnation: it takes part since the slot from which on it has notices or
+-- since a later one, and that of the opening since slot 0.
 use Rattle.std.proofs.Common.{◌≡◌, ℕ, ◌+◌, ◌≤◌, ◌⊎◌, inl, inr, List, length, refl, sym, subst, arith}
 use Rattle.std.proofs.lemmas.Bool.{cases_lt}
 use Rattle.std.proofs.lemmas.List.{length-replicate}

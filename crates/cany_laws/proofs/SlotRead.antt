@@ -1,5 +1,5 @@
--- Which incarnations read a slot: those that ran when it had been run, with the restarts at its end. Each of them has then read the same up to that slot,
--- whenever it reads it.
+-- Which incarnations read a slot: those that ran when it had been run, with the restarts at its
+-- end. Each of them has then read the same up to that slot, whenever it reads it.
 use Rattle.std.proofs.Common.{◌≡◌, ℕ, suc, ◌+◌, ◌-◌, ◌<◌, ◌≤◌, ◌⊎◌, inl, inr, true, List, [], ◌∷◌, ◌++◌, length, map, drop, refl, ap, sym, ◌∙◌, subst, arith, append_assoc, drop-drop, length-append}
 use Rattle.std.specs.List.{AllByRecursion}
 use Rattle.std.proofs.Math.Seq.{drop-append_seam}

@@ -1,4 +1,5 @@
--- A message that is settled stays settled: along the rest of the journal nobody waits with a frame of it, no later slot carries one, and nothing of it is ahead.
+-- A message that is settled stays settled: along the rest of the journal nobody waits with a frame
+-- of it, no later slot carries one, and nothing of it is ahead.
 use Rattle.std.proofs.Common.{◌≡◌, ℕ, ◌+◌, ◌-◌, ◌<◌, ◌≤◌, ◌&&◌, ◌||◌, ◌==◌, ◌⊎◌, inl, inr, Bool, true, false, not, List, [], ◌∷◌, ◌++◌, length, map, drop, Option, Some, None, refl, ap, sym, ◌∙◌, subst, arith, Contains, length-append}
 use Rattle.std.specs.List.{AllByRecursion, list_any, range_with_len}
 use Rattle.std.specs.Option.{option_map_or}

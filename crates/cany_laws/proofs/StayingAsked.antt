@@ -1,4 +1,5 @@
--- A LEAVE that waits was asked for by the node at which it waits. So of a node in its first incarnation that has asked for no leave, none was carried.
+-- A LEAVE that waits was asked for by the node at which it waits. So of a node in its first
+-- incarnation that has asked for no leave, none was carried.
 use Rattle.std.proofs.Common.{◌≡◌, ℕ, zero, suc, ◌+◌, ◌-◌, ◌<◌, ◌++◌, ◌==◌, true, List, [], ◌∷◌, length, drop, ap, sym, ◌∙◌, subst, arith, get_or}
 use Rattle.std.specs.Prelude.{Contains, Some}
 use Rattle.std.proofs.lemmas.Bool.{and_parts, both_ways, eqb-true, false_from_ne_true}
@@ -42,7 +43,8 @@ asked_dropped scenario i zero past h = h
 asked_dropped scenario i (suc n) [] h = h
 asked_dropped scenario i (suc n) (e ∷ past) h = asked_later scenario i e past (asked_dropped scenario i n past h)
 
--- a LEAVE that a slot carried, the node has asked for that it names, where that is in its first incarnation
+-- a LEAVE that a slot carried, the node has asked for that it names, where that is in its first
+-- incarnation
 carried_asked : (scenario : ScenarioParts) (journal : List Step) (r : ℕ) → IsCorrect scenario (run scenario journal) r
     → (node_at (run scenario journal).nodes r).present.number ≡ 0 → (n : ℕ) → n < length (run scenario journal).trace → (f : FrameParts)
     → (note_in (run scenario journal).trace n).frame ≡ Some f → f.class ≡ class.Leave → f.node ≡ r

@@ -1,5 +1,5 @@
--- A running node in its first incarnation that has asked for no leave, or of which no LEAVE was carried, stays in the views once one incarnation had it in
--- its view.
+-- A running node in its first incarnation that has asked for no leave, or of which no LEAVE was
+-- carried, stays in the views once one incarnation had it in its view.
 use Rattle.std.proofs.Common.{◌≡◌, ℕ, ◌==◌, false, List, [], ◌∷◌, ap, ◌∙◌}
 use Rattle.std.specs.Prelude.{Contains}
 use Rattle.std.specs.List.{AllByRecursion}

@@ -1,5 +1,6 @@
--- A node that has not stopped, of which no LEAVE was carried, and that one incarnation had in its view, is in each vector that any incarnation installs
--- later: each starts a cycle with it, so each frame of the cycle has it, and so has what is installed at the end.
+-- A node that has not stopped, of which no LEAVE was carried, and that one incarnation had in its
+-- view, is in each vector that any incarnation installs later: each starts a cycle with it, so each
+-- frame of the cycle has it, and so has what is installed at the end.
 use Rattle.std.proofs.Common.{◌≡◌, ℕ, zero, suc, ◌+◌, ◌-◌, ◌*◌, ◌<◌, ◌≤◌, ◌&&◌, ◌==◌, inl, inr, Bool, true, false, List, [], ◌∷◌, length, drop, Option, Some, None, refl, ap, sym, ◌∙◌, subst, arith}
 use Rattle.std.specs.List.{AllByRecursion}
 use Rattle.std.proofs.Math.Nat.{mul-le-mul_right}

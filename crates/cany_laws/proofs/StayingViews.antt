@@ -1,4 +1,5 @@
--- Incarnations that have a node in their view have one view; and the view of one keeps a node while each vector that it installs has it.
+-- Incarnations that have a node in their view have one view; and the view of one keeps a node while
+-- each vector that it installs has it.
 use Rattle.std.proofs.Common.{◌≡◌, ℕ, zero, suc, ◌+◌, ◌*◌, ◌<◌, ◌≤◌, inl, inr, true, false, Option, Some, None, refl, ap, sym, ◌∙◌, subst, arith}
 use Rattle.std.specs.Prelude.{List}
 use Rattle.std.proofs.Math.Nat.{mul-le-mul_right}
@@ -97,7 +98,8 @@ module _ (scenario : ScenarioParts) (legal : IsLegalScenario scenario) (journal 
 
   -- ---- a node that one has in its view
 
-  -- so has each other one that has any node in its view, as long as each vector that it installs has it
+  -- so has each other one that has any node in its view, as long as each vector that it installs
+  -- has it
   pub keeps_member : (r i j : ℕ) (e f : EndedIncarnation) (ie : IsIncarnation scenario (run scenario journal) i e)
       (jf : IsIncarnation scenario (run scenario journal) j f)
       → (first : ℕ) → first ≤ e.next → has (V i e ie first) r ≡ true → (d : ℕ) → first + d ≤ f.next

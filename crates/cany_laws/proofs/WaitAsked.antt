@@ -1,4 +1,5 @@
--- The data frame of a message that its origin has asked for waits there, unless a slot sent it with success, or the origin has read enough copies of it.
+-- The data frame of a message that its origin has asked for waits there, unless a slot sent it with
+-- success, or the origin has read enough copies of it.
 use Rattle.std.proofs.Common.{◌≡◌, ℕ, zero, suc, ◌<◌, ◌⊎◌, inl, inr, true, List, [], ◌∷◌, drop, refl, ap, sym, ◌∙◌, subst, arith}
 use Rattle.std.specs.Prelude.{None}
 use Rattle.std.specs.List.{AllByRecursion, list_any}

@@ -1,4 +1,5 @@
--- Why a node asks for the data frame of an EDCAN message: it has got the first copy, or it is the origin, in its turn of the scripted slot.
+-- Why a node asks for the data frame of an EDCAN message: it has got the first copy, or it is the
+-- origin, in its turn of the scripted slot.
 use Rattle.std.proofs.Common.{◌≡◌, ℕ, ◌==◌, ◌⊎◌, ◌++◌, inl, inr, true, false, not, List, [], ◌∷◌, length, refl, ap, sym, ◌∙◌, arith}
 use Rattle.std.specs.List.{AllByRecursion}
 use Rattle.std.proofs.lemmas.Bool.{and_parts, cond_both, eqb-true, false≢true, not-true}
@@ -28,7 +29,8 @@ use Rattle.cany_model.proofs.Rules.Protocols.{are_lawful}
 use Rattle.cany_model.proofs.Rules.SendFacts.{is_sent_in-true, sendable_one, sent_of}
 use Rattle.cany_model.proofs.Rules.Waits.{Asks}
 
--- the newest notice brought the first copy, and the node has not read an own transmission of the frame
+-- the newest notice brought the first copy, and the node has not read an own transmission of the
+-- frame
 pub record AtFirstCopy (x : Identity) (e : NoticeKind) (past : List NoticeKind) : Type 0 where
   pub none : copies x past ≡ 0
   pub now : copies x (e ∷ past) ≡ 1
@@ -103,7 +105,8 @@ sends_in_slot scenario m i e past is h =
 
 -- ---- a whole turn
 
--- why the frame of a message is asked for, where each protocol names no such frames or has this reason
+-- why the frame of a message is asked for, where each protocol names no such frames or has this
+-- reason
 pub asked_why : (scenario : ScenarioParts) (m : Message) (by : Service) → m.service ≡ by → (i : ℕ) (e : NoticeKind) (past : List NoticeKind) (Why : Type 0)
     → AllByRecursion (λ p. (p.names (data_class by) ≡ false) ⊎ (Among (Asks (data_id m)) (p.effects scenario i (e ∷ past)) → Why)) protocols
     → Among (Asks (data_id m)) (turn_effects scenario i (e ∷ past)) → Why

@@ -1,5 +1,6 @@
--- A message of EDCAN or RELCAN is delivered in the slot that carried its data frame Clean, or before: a node that took part got the frame then, or it sent
--- it, and then it is the origin or had got a copy.
+-- A message of EDCAN or RELCAN is delivered in the slot that carried its data frame Clean, or
+-- before: a node that took part got the frame then, or it sent it, and then it is the origin or had
+-- got a copy.
 use Rattle.std.proofs.Common.{◌≡◌, ℕ, zero, suc, ◌+◌, ◌-◌, ◌<◌, ◌≤◌, ◌==◌, ◌&&◌, ◌⊎◌, inl, inr, true, List, [], ◌∷◌, ◌++◌, Contains, drop, length, map, refl, ap, sym, ◌∙◌, subst, arith, add-zero, length-append, length-drop}
 use Rattle.std.specs.Prelude.{Some}
 use Rattle.std.proofs.Math.Seq.{drop-append_seam}

@@ -1,4 +1,5 @@
--- An EDCAN message is carried Clean at most once for each incarnation of a node: one that has sent it with success does not ask for it again.
+-- An EDCAN message is carried Clean at most once for each incarnation of a node: one that has sent
+-- it with success does not ask for it again.
 use Rattle.std.proofs.Common.{◌≡◌, ℕ, suc, ◌+◌, ◌<◌, ◌≤◌, ◌==◌, ◌&&◌, ◌||◌, ◌⊎◌, inl, inr, Bool, true, false, not, List, ◌∷◌, Contains, length, map, drop, ap, sym, ◌∙◌, subst, arith}
 use Rattle.std.specs.Prelude.{Some}
 use Rattle.std.specs.List.{list_any}

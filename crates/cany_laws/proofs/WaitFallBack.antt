@@ -1,4 +1,5 @@
--- Why a node asks for the data frame of a RELCAN message: it falls back in this turn, or it is the origin, in its turn of the scripted slot.
+-- Why a node asks for the data frame of a RELCAN message: it falls back in this turn, or it is the
+-- origin, in its turn of the scripted slot.
 use Rattle.std.specs.Prelude.{slice_index_or}
 use Rattle.std.proofs.Common.{◌≡◌, ℕ, zero, suc, ◌==◌, ◌&&◌, ◌⊎◌, ◌++◌, inl, inr, true, false, not, List, [], ◌∷◌, drop, refl, ap, sym, ◌∙◌}
 use Rattle.std.proofs.lemmas.Bool.{and_parts, cond_both, false≢true, not-true, or_left, or_right}

@@ -1,4 +1,5 @@
--- A message that its origin has asked for: its data frame waits there in each slot that is run later, until one has carried it Clean.
+-- A message that its origin has asked for: its data frame waits there in each slot that is run
+-- later, until one has carried it Clean.
 use Rattle.std.proofs.Common.{◌≡◌, ℕ, ◌+◌, ◌-◌, ◌*◌, ◌<◌, ◌≤◌, ◌⊎◌, ◌==◌, ◌&&◌, inl, inr, true, false, not, nat_lt, List, ◌∷◌, ◌++◌, Contains, drop, length, refl, ap, sym, ◌∙◌, subst, arith, drop-drop, length-append, length-drop}
 use Rattle.std.specs.List.{AllByRecursion, list_any}
 use Rattle.std.proofs.Math.Seq.{drop-append_seam}

@@ -1,4 +1,5 @@
--- What each step changes at one node: the frames that wait, what it has read, and how many incarnations it has had.
+-- What each step changes at one node: the frames that wait, what it has read, and how many
+-- incarnations it has had.
 use Rattle.std.proofs.Common.{◌≡◌, ℕ, suc, ◌<◌, ◌≤◌, ◌||◌, Bool, true, false, not, List, [], ◌∷◌, length, map, drop, refl, ap, sym, ◌∙◌, arith}
 use Rattle.std.specs.Prelude.{Some}
 use Rattle.std.proofs.lemmas.Bool.{cond_both, not-true}
@@ -42,7 +43,8 @@ without_none x (g ∷ w) =
     neither : (a b : Bool) → a ≡ false → b ≡ false → (a || b) ≡ false
     neither a b first second = rw first second
 
--- a node that waits with the frame that is carried Clean has sent it, and does not wait with it after the slot
+-- a node that waits with the frame that is carried Clean has sent it, and does not wait with it
+-- after the slot
 pub has_sent : (rules : FaultScript) (s : RunState) (f : FrameParts) → (slot_note_of rules s).frame ≡ Some f → is_clean (slot_note_of rules s).verdict ≡ true
     → (o : IsOffered s.nodes f) → o.node < most_nodes → given o.node (slot_note_of rules s) ≡ Sent f
 has_sent rules s f frame clean o few =

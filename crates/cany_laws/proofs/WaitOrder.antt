@@ -1,4 +1,5 @@
--- The frame of a slot does not come after a frame that a running node waits with: it is of the same identity, or wins over those of it.
+-- The frame of a slot does not come after a frame that a running node waits with: it is of the same
+-- identity, or wins over those of it.
 use Rattle.std.proofs.Common.{◌≡◌, ℕ, ◌⊎◌, ◌==◌, ◌&&◌, inl, inr, Bool, true, false, nat_lt, List, [], ◌∷◌, Option, Some, None, refl, sym, subst, arith}
 use Rattle.std.specs.List.{flat_map}
 use Rattle.std.proofs.lemmas.Bool.{and_from, cases_eq, cond_both, eq-eqb}

@@ -1,4 +1,5 @@
--- A node gets no copy of an EDCAN message's data frame while it waits with it. So an origin that has sent it with success has read that before it reads a copy.
+-- A node gets no copy of an EDCAN message's data frame while it waits with it. So an origin that
+-- has sent it with success has read that before it reads a copy.
 use Rattle.std.proofs.Common.{◌≡◌, ℕ, zero, suc, ◌<◌, ◌≤◌, ◌⊎◌, inl, inr, Bool, true, false, List, [], ◌∷◌, Contains, length, map, drop, refl, ap, sym, ◌∙◌, subst, arith}
 use Rattle.std.specs.Prelude.{None}
 use Rattle.std.specs.List.{list_any}
@@ -79,7 +80,8 @@ none_first x i [] never = tt
 none_first x i (note ∷ trace) never =
     (λ got. absurd (never (inl (Carries-from_got i x note got))), none_first x i trace (λ c. never (inr c)))
 
--- A node that waits with the frame, or has sent it, has read a copy, or no copy came before an own transmission.
+-- A node that waits with the frame, or has sent it, has read a copy, or no copy came before an own
+-- transmission.
 abbrev pub HasAskedOnce : Message → RunState → ℕ → Type 0
 HasAskedOnce m s i =
     (0 < copies (data_id m) (history i s))

@@ -1,5 +1,6 @@
--- A RELCAN message is carried Clean at most once for each incarnation of a node: an incarnation of the origin asks for the frame in its turn of the scripted
--- slot, one of another node when the timer of its first copy runs out.
+-- A RELCAN message is carried Clean at most once for each incarnation of a node: an incarnation of
+-- the origin asks for the frame in its turn of the scripted slot, one of another node when the
+-- timer of its first copy runs out.
 use Rattle.std.proofs.Common.{◌≡◌, ℕ, suc, ◌+◌, ◌<◌, ◌≤◌, ◌==◌, ◌&&◌, ◌⊎◌, inl, inr, Bool, true, false, not, nat_le, List, ◌∷◌, Contains, drop, length, refl, ap, sym, ◌∙◌, subst, arith}
 use Rattle.std.proofs.lemmas.Bool.{and_from, and_parts, cases_Bool, cases_eq, eq-eqb, both_ways, not-true, not_from_false, false_from_ne_true, false≢true, le-leb, leb-true}
 use Rattle.cany_base.specs.declared.message.Service.TheVariants.{Rel}
@@ -36,7 +37,8 @@ use Rattle.cany_laws.proofs.WaitTotals.{one_if_false, one_if_true, one_if_weaker
 
 -- ---- the times that are left at a node
 
--- it waits with the frame; it is not the origin, and its timer may still run out; it is the origin, and the turn of the scripted slot is to come
+-- it waits with the frame; it is not the origin, and its timer may still run out; it is the origin,
+-- and the turn of the scripted slot is to come
 abbrev holds_it : Message → RunState → ℕ → Bool
 holds_it m s i = runs (node_at s.nodes i) && waits (data_id m) (node_at s.nodes i).waiting
 

@@ -1,4 +1,5 @@
--- The slots in which a running node waits with a frame: each is disturbed, carries the frame, or carries one that wins over it. So there are few of them.
+-- The slots in which a running node waits with a frame: each is disturbed, carries the frame, or
+-- carries one that wins over it. So there are few of them.
 use Rattle.std.proofs.Common.{◌≡◌, ℕ, suc, ◌+◌, ◌-◌, ◌*◌, ◌<◌, ◌≤◌, ◌⊎◌, ◌&&◌, ◌||◌, inl, inr, Bool, true, false, not, List, ◌∷◌, length, refl, ap, sym, ◌∙◌, subst, arith, add-zero, length-append}
 use Rattle.std.specs.Prelude.{Some}
 use Rattle.std.specs.List.{list_any}
@@ -53,7 +54,8 @@ taken_clean note f frame top clean =
       ]
     ])
 
--- a slot that carried no frame of the identity Clean, while a running node waited with one, is taken, or carried Clean one that wins over it
+-- a slot that carried no frame of the identity Clean, while a running node waited with one, is
+-- taken, or carried Clean one that wins over it
 taken_or_interferes : (x : Identity) (note : SlotNote) → is_silent_slot note ≡ false → is_clean_frame x note ≡ false → NotAfterIt x note
     → (is_taken note ≡ true) ⊎ (interferes x note ≡ true)
 taken_or_interferes x note plain not_clean w = elim (clean_or_error note w.what w.frame plain) [

@@ -1,5 +1,6 @@
--- How often a frame is carried Clean: each node has a number of times left, which no step raises but a restart, by one, and which falls at a node that sent
--- the frame in a slot that carried it Clean.
+-- How often a frame is carried Clean: each node has a number of times left, which no step raises
+-- but a restart, by one, and which falls at a node that sent the frame in a slot that carried it
+-- Clean.
 use Rattle.std.proofs.Common.{◌≡◌, ℕ, zero, suc, ◌+◌, ◌<◌, ◌≤◌, inl, inr, true, List, length, refl, sym, subst, arith}
 use Rattle.std.specs.Prelude.{Some}
 use Rattle.std.proofs.lemmas.Bool.{and_parts, cases_Bool}

@@ -1,4 +1,5 @@
--- Before the origin of an EDCAN message has read the scripted slot, no slot has carried its data frame, and no running node waits with it.
+-- Before the origin of an EDCAN message has read the scripted slot, no slot has carried its data
+-- frame, and no running node waits with it.
 use Rattle.std.proofs.Common.{◌≡◌, ℕ, ◌<◌, ◌≤◌, ◌⊎◌, inl, inr, true, false, List, ◌∷◌, length, ap, sym, ◌∙◌, subst, arith}
 use Rattle.std.proofs.lemmas.Bool.{both_ways, cases_Bool, cases_eq, cases_lt, false_from_ne_true}
 use Rattle.cany_base.specs.declared.message.Service.TheVariants.{Ed}

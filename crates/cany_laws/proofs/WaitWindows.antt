@@ -52,7 +52,8 @@ count_parted t first (suc a) b =
     next : (m n : ℕ) → m + 1 + n ≡ m + suc n
     next m n = omega arith
 
--- what so many consecutive ones can have at most, so many times that have so many times that at most
+-- what so many consecutive ones can have at most, so many times that have so many times that at
+-- most
 pub count_windows : (t : ℕ → Bool) (size most : ℕ) → ((d : ℕ) → count_by t (range_with_len d size) ≤ most)
     → (times first n : ℕ) → n ≤ times * size → count_by t (range_with_len first n) ≤ times * most
 count_windows t size most few zero first n short =

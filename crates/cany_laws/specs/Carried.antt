@@ -25,16 +25,18 @@ unfoldable pub incarnations_of_first : RunState → ℕ → ℕ
 incarnations_of_first s zero = 0
 incarnations_of_first s (suc n) = incarnations_of_first s n + length (incarnations s n)
 
--- Of a TOTCAN message the bus has carried the data frame Clean at most once, and the frame that accepts it at most as often as there are nodes, and at most
--- lag + 2 times; where `omit` is 0, at most once.
+-- Of a TOTCAN message the bus has carried the data frame Clean at most once, and the frame that
+-- accepts it at most as often as there are nodes, and at most lag + 2 times; where `omit` is 0, at
+-- most once.
 pub record CarriesFewOf (scenario : ScenarioParts) (s : RunState) (key : MsgKey) : Type 0 where
   pub tot_data : times_clean (tot_of_key key) s.trace ≤ 1
   pub accepts_by_nodes : times_clean (accept_of_key key) s.trace ≤ scenario.params.nodes
   pub accepts_by_lag : times_clean (accept_of_key key) s.trace ≤ scenario.params.lag + 2
   pub accepts_once : scenario.params.omit ≡ 0 → times_clean (accept_of_key key) s.trace ≤ 1
 
--- The bus has carried the frame of a failure sign Clean at most as often as there have been incarnations of the nodes. Without restart entries: at most as
--- often as there are nodes, and at most lag + 2 times.
+-- The bus has carried the frame of a failure sign Clean at most as often as there have been
+-- incarnations of the nodes. Without restart entries: at most as often as there are nodes, and at
+-- most lag + 2 times.
 pub record CarriesFewOfSign (scenario : ScenarioParts) (s : RunState) (sign : FailureSign) : Type 0 where
   pub by_incarnations : times_clean (fda_of sign) s.trace ≤ incarnations_of_first s scenario.params.nodes
   pub by_nodes : scenario.restarts ≡ [] → times_clean (fda_of sign) s.trace ≤ scenario.params.nodes

@@ -12,8 +12,9 @@ use Rattle.cany_laws.specs.Logs.{IsIncarnation, past_to}
 use Rattle.cany_laws.specs.Membership.{knowledge_as, members_as}
 use Rattle.cany_laws.specs.Views.{installed_as}
 
--- An incarnation of node i had another node r in its view after each of its turns of the slots from t on and before slot u, and heard no life of it in the slots after
--- t and up to u, which it has read.
+-- An incarnation of node i had another node r in its view after each of its turns of the slots from
+-- t on and before slot u, and heard no life of it in the slots after t and up to u, which it has
+-- read.
 pub record HearsNothingOf (scenario : ScenarioParts) (s : RunState) (i : ℕ) (e : EndedIncarnation) (r t u : ℕ) : Type 0 where
   pub is : IsIncarnation scenario s i e
   pub there : r < scenario.params.nodes
@@ -27,16 +28,16 @@ pub record HearsNothingOf (scenario : ScenarioParts) (s : RunState) (i : ℕ) (e
 abbrev pub HasFailedBy : ScenarioParts → RunState → (u i : ℕ) → EndedIncarnation → ℕ → Type 0
 HasFailedBy scenario s u i e r = has (knowledge_as scenario s u i e).failed r ≡ true
 
--- After the silence it has failed, unless its sign of the cycle of slot u was known by the turn of slot t: a sign counts once. From the
--- start of the next cycle on it has failed in any case.
+-- After the silence it has failed, unless its sign of the cycle of slot u was known by the turn of
+-- slot t: a sign counts once. From the start of the next cycle on it has failed in any case.
 pub record IsDetected (scenario : ScenarioParts) (s : RunState) (i : ℕ) (e : EndedIncarnation) (r t u : ℕ) : Type 0 where
   pub failed : HasFailedBy scenario s u i e r ⊎ (knows (sign_in scenario.params u r) (knowledge_as scenario s t i e) ≡ true)
   pub after_start : t < cycle_of scenario.params u * scenario.params.cycle → HasFailedBy scenario s u i e r
 
 -- ---- a cycle that starts without a node
 
--- An incarnation of node i has read cycle k to its end. At its turn of the slot in which the cycle starts it stands in its own view, and so does r, and r has failed
--- there.
+-- An incarnation of node i has read cycle k to its end. At its turn of the slot in which the cycle
+-- starts it stands in its own view, and so does r, and r has failed there.
 pub record FailedAtStart (scenario : ScenarioParts) (s : RunState) (r k i : ℕ) (e : EndedIncarnation) : Type 0 where
   pub is : IsIncarnation scenario s i e
   pub some : 0 < k
@@ -50,8 +51,9 @@ abbrev pub IsLeftOut : ScenarioParts → RunState → (r k : ℕ) → Type 0
 IsLeftOut scenario s r k =
     (j : ℕ) (f : EndedIncarnation) → IsIncarnation scenario s j f → (v : Nodes) → installed_as scenario s j f k ≡ Some v → has v r ≡ false
 
--- An incarnation of node i has read cycle k to its end. It stood in its own view before its turn of the slot in which the cycle starts, had r in its view in as many
--- slots before that one as the silence has, and heard no life of r in them, but for the first, nor in that slot itself.
+-- An incarnation of node i has read cycle k to its end. It stood in its own view before its turn of
+-- the slot in which the cycle starts, had r in its view in as many slots before that one as the
+-- silence has, and heard no life of r in them, but for the first, nor in that slot itself.
 pub record WasSilentAtStart (scenario : ScenarioParts) (s : RunState) (r k i : ℕ) (e : EndedIncarnation) : Type 0 where
   pub some : 0 < k
   pub enough : scenario.params.silence ≤ k * scenario.params.cycle

@@ -19,8 +19,9 @@ use Rattle.cany_laws.specs.Logs.{IsIncarnation, log_as}
 abbrev pub is_frame_of : Message → FrameParts → Bool
 is_frame_of m f = list_any (λ x. is_of x f) (frames_of m)
 
--- Of a message, once the front of a journal was made, whatever the rest of it is. It stays settled wherever all is read again, no later slot
--- carries a frame of it, and no log, of whatever incarnation, has a delivery of it in a later slot.
+-- Of a message, once the front of a journal was made, whatever the rest of it is. It stays settled
+-- wherever all is read again, no later slot carries a frame of it, and no log, of whatever
+-- incarnation, has a delivery of it in a later slot.
 pub record IsFinal (scenario : ScenarioParts) (front rest : List Step) (m : Message) : Type 0 where
   pub settled : all_read (run scenario (front ++ rest)) ≡ true → is_settled scenario (run scenario (front ++ rest)) m ≡ true
   pub silent : (note : SlotNote) → Contains (run scenario (front ++ rest)).trace note → slots_run (run scenario front) ≤ note.slot

@@ -12,8 +12,8 @@ use Rattle.cany_model.specs.Rules.Log.{log_from}
 use Rattle.cany_model.specs.Rules.Turn.{scenario_for}
 use Rattle.cany_model.specs.Runs.Incarnations.{incarnations, log_of}
 
--- An incarnation of node i: an earlier one as it was when the next one began, or the present one, as if it ended now. It may run or have
--- stopped.
+-- An incarnation of node i: an earlier one as it was when the next one began, or the present one,
+-- as if it ended now. It may run or have stopped.
 pub record IsIncarnation (scenario : ScenarioParts) (s : RunState) (i : ℕ) (e : EndedIncarnation) : Type 0 where
   pub there : i < scenario.params.nodes
   pub stands : Contains (incarnations s i) e
@@ -46,7 +46,8 @@ log_as scenario s i e = log_from (followed_by scenario e) i (past_of s i e)
 
 -- ---- integrity
 
--- no message twice or unsent in the log of an incarnation, which a number names, no failure of a node that is not there, and in each view the number of its cycle
+-- no message twice or unsent in the log of an incarnation, which a number names, no failure of a
+-- node that is not there, and in each view the number of its cycle
 pub record EachLogIsIntegral (scenario : ScenarioParts) (s : RunState) : Type 0 where
   pub once : (i number : ℕ) → i < scenario.params.nodes → (key : MsgKey) → count_by (delivers_key key) (log_of scenario s i number) ≤ 1
   pub sent : (i number : ℕ) → i < scenario.params.nodes → (entry : LogEntry) → Contains (log_of scenario s i number) entry → IsSound scenario s entry

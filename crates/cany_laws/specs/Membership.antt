@@ -21,8 +21,9 @@ abbrev pub HaveEqualMembers : ScenarioParts → RunState → (since : ℕ) → (
 HaveEqualMembers scenario s since i e j f =
     (t : ℕ) → since ≤ t → t < e.next → t < f.next → members_as scenario s t i e ≡ members_as scenario s t j f
 
--- Any two incarnations have equal views from the end of a cycle on in which one of them installed a vector, where both take part since that
--- cycle started; and from slot 0 on, where both are those of the opening.
+-- Any two incarnations have equal views from the end of a cycle on in which one of them installed a
+-- vector, where both take part since that cycle started; and from slot 0 on, where both are those
+-- of the opening.
 pub record HasOneMembership (scenario : ScenarioParts) (s : RunState) : Type 0 where
   pub installed : (i j : ℕ) (e f : EndedIncarnation) → IsIncarnation scenario s i e → IsIncarnation scenario s j f
       → (k : ℕ) → e.incarnation.from ≤ k * scenario.params.cycle → f.incarnation.from ≤ k * scenario.params.cycle

@@ -24,8 +24,9 @@ deliveries_as scenario s i e = tot_deliveries (log_as scenario s i e)
 abbrev pub ordered_deliveries : ScenarioParts → RunState → (i : ℕ) → EndedIncarnation → List Content
 ordered_deliveries scenario s i e = filter (λ c. is_accepted_by_some scenario s c.msg) (deliveries_as scenario s i e)
 
--- Of an incarnation of node i, from the first slot in which it takes part. Of what it has delivered, the messages that a running node has accepted are a
--- prefix of the order. All that it has delivered is a prefix of the longer order, which also has what this incarnation has accepted.
+-- Of an incarnation of node i, from the first slot in which it takes part. Of what it has
+-- delivered, the messages that a running node has accepted are a prefix of the order. All that it
+-- has delivered is a prefix of the longer order, which also has what this incarnation has accepted.
 pub record FollowsOrderAs (scenario : ScenarioParts) (s : RunState) (i : ℕ) (e : EndedIncarnation) : Type 0 where
   pub ordered : IsPrefixOf (ordered_deliveries scenario s i e) (order scenario s e.incarnation.from)
   pub whole : IsPrefixOf (deliveries_as scenario s i e) (order_by (is_accepted_by_it_or_some scenario s i e) e.incarnation.from s.trace)

@@ -21,14 +21,16 @@ got_join r (Got f) = same_class f.class class.Join && f.node == r
 got_join r (Sent f) = false
 got_join r Bad = false
 
--- no node got a JOIN of node r in a slot up to the second of these, but for those that lie a cycle and the bound or more before the first
+-- no node got a JOIN of node r in a slot up to the second of these, but for those that lie a cycle
+-- and the bound or more before the first
 abbrev pub NobodyGotJoin : ScenarioParts → RunState → (r t until : ℕ) → Type 0
 NobodyGotJoin scenario s r t until =
     (note : SlotNote) → Contains s.trace note → t < note.slot + (scenario.params.cycle + scenario.params.bound) → note.slot ≤ until
     → (j : ℕ) → got_join r (given j note) ≡ false
 
--- An incarnation of node i has another node r in its view after its turn of slot t. Cycle k starts a silence or more after slot t: before its turn of
--- the slot in which it starts the incarnation stands in its own view, and it has read the cycle to its end.
+-- An incarnation of node i has another node r in its view after its turn of slot t. Cycle k starts
+-- a silence or more after slot t: before its turn of the slot in which it starts the incarnation
+-- stands in its own view, and it has read the cycle to its end.
 pub record HadItLongBefore (scenario : ScenarioParts) (s : RunState) (r t k i : ℕ) (e : EndedIncarnation) : Type 0 where
   pub is : IsIncarnation scenario s i e
   pub other : r ≡ i → ⊥

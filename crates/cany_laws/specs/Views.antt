@@ -15,7 +15,8 @@ installed_as scenario s i e k = installed_of (followed_by scenario e) i k (past_
 abbrev pub HasReadEndAs : ScenarioParts → RunState → (k i : ℕ) → EndedIncarnation → Type 0
 HasReadEndAs scenario s k i e = HasReadClosingAs scenario s (k * scenario.params.cycle) i e
 
--- Such incarnations, of whatever nodes, install one vector, or none of them has one; and one that takes part only since later has none.
+-- Such incarnations, of whatever nodes, install one vector, or none of them has one; and one that
+-- takes part only since later has none.
 pub record EachInstallsOneVector (scenario : ScenarioParts) (s : RunState) (k : ℕ) : Type 0 where
   pub alike : (i j : ℕ) (e f : EndedIncarnation) → HasReadEndAs scenario s k i e → HasReadEndAs scenario s k j f
       → installed_as scenario s i e k ≡ installed_as scenario s j f k

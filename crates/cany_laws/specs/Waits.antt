@@ -1,4 +1,5 @@
--- How long a frame waits: the slots in which a running node waited with it, those in which another frame was carried before it, and the slot that carried it.
+-- How long a frame waits: the slots in which a running node waited with it, those in which another
+-- frame was carried before it, and the slot that carried it.
 use Rattle.std.specs.Prelude.{◌≡◌, ℕ, ◌+◌, ◌-◌, ◌<◌, ◌≤◌, ◌&&◌, Bool, true, not, List, Contains, Some, count_by, drop, take}
 use Rattle.cany_base.specs.declared.log_entry.LogEntry.TheVariants.{Deliver}
 use Rattle.cany_base.specs.declared.slot_note.SlotNote.{SlotNote}
@@ -43,7 +44,8 @@ pub record WasCarriedIn (trace : List SlotNote) (x : Identity) (first n : ℕ) :
   pub frame : carried (is_of x) note ≡ true
   pub clean : note.verdict ≡ Clean
 
--- whether the slot carried Clean a frame that interferes: it wins over those of this identity, and is of none of the classes that win over all others
+-- whether the slot carried Clean a frame that interferes: it wins over those of this identity, and
+-- is of none of the classes that win over all others
 abbrev pub interferes : Identity → SlotNote → Bool
 interferes x note = carried (λ f. not (is_top f.class) && is_before f (bare x)) note && is_clean note.verdict
 
@@ -55,7 +57,8 @@ interference x s first n = count_by (interferes x) (slots_from s first n)
 abbrev pub window : Parameters → ℕ
 window p = p.bound + p.lag
 
--- at most so many slots of a window are Lost or Partial, or carry Clean a frame of the classes that win over all others
+-- at most so many slots of a window are Lost or Partial, or carry Clean a frame of the classes that
+-- win over all others
 abbrev pub most_taken : Parameters → ℕ
 most_taken p = top_frames p.nodes + p.errors
 
@@ -65,7 +68,8 @@ least_left p = window p - most_taken p
 
 -- ---- messages
 
--- The origin of a message runs, takes part since slot t or an earlier one, has read that slot, and had asked for the data frame by its turn of it.
+-- The origin of a message runs, takes part since slot t or an earlier one, has read that slot, and
+-- had asked for the data frame by its turn of it.
 pub record HasAskedBy (scenario : ScenarioParts) (s : RunState) (m : Message) (t : ℕ) : Type 0 where
   pub stands : Contains (messages_of scenario.sends) m
   pub origin : IsCorrectFrom scenario s t m.origin

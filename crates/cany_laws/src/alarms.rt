@@ -34,10 +34,10 @@ pub fn accuracy()
 {}
 
 /// Staying where others start again: in such a run, let a running node be in its first incarnation,
-/// and let one incarnation, of whatever node, have had it in its view after its turn of a slot t. If
-/// the node has asked for no leave (`unasked`), and more generally if no slot carried a LEAVE of it
-/// (`uncarried`), it stands in each vector that an incarnation, of whatever node, installs in a cycle
-/// that ends after slot t.
+/// and let one incarnation, of whatever node, have had it in its view after its turn of a slot t.
+/// If the node has asked for no leave (`unasked`), and more generally if no slot carried a LEAVE of
+/// it (`uncarried`), it stands in each vector that an incarnation, of whatever node, installs in a
+/// cycle that ends after slot t.
 ///
 /// It is said of all incarnations, those that started again and those that stopped later too, and
 /// asks nothing of who else is in the views. It says nothing of a node that started again.

@@ -29,8 +29,8 @@ pub fn integrity()
         → EachLogIsIntegral scenario (run scenario journal) }
 {}
 
-/// One vector for all incarnations: in every run within the fault hypothesis of a legal scenario the
-/// incarnations of all nodes, ended or present, running or stopped, that take part since a
+/// One vector for all incarnations: in every run within the fault hypothesis of a legal scenario
+/// the incarnations of all nodes, ended or present, running or stopped, that take part since a
 /// membership cycle starts and have read its end install one vector there, or none of them has one.
 /// One that takes part only since later has none.
 pub fn vector_agreement()
@@ -96,10 +96,11 @@ pub fn delivery_in_time()
 
 /// Delivery by all or none: of a TOTCAN message whose data frame was carried Clean in a slot c of
 /// such a run, if one incarnation that takes part since c and has read slot c + `bound` has a
-/// delivery of it in its log, each such incarnation has delivered it in a slot from c to c + `bound`.
+/// delivery of it in its log, each such incarnation has delivered it in a slot from c to c +
+/// `bound`.
 ///
-/// So what a node has delivered that stopped after it read slot c + `bound`, each has delivered that
-/// read this slot too.
+/// So what a node has delivered that stopped after it read slot c + `bound`, each has delivered
+/// that read this slot too.
 pub fn delivery_agreement()
     ensures { (scenario : ScenarioParts) (journal : List Step) → IsLegalScenario scenario
         → IsWithin scenario.params (run scenario journal).trace

@@ -10,15 +10,16 @@ ghost use Rattle.cany_laws.specs.Removal.{HadItLongBefore, HearsNoLifeOf, Nobody
 
 /// Removal with restarts: in every run within the fault hypothesis of a legal scenario, let an
 /// incarnation have another node in its view after its turn of slot t, hear no life of it in the
-/// slots after t and up to that in which cycle k starts, which is `silence` or more after t, stand in
-/// its own view before its turn of the slot in which the cycle starts, and read the cycle to its end. If no node got a JOIN of
-/// the other node in a slot after t − `cycle` − `bound` and not after the start of cycle k, then no
-/// incarnation, of whatever node, installs a vector with that node in cycle k.
+/// slots after t and up to that in which cycle k starts, which is `silence` or more after t, stand
+/// in its own view before its turn of the slot in which the cycle starts, and read the cycle to its
+/// end. If no node got a JOIN of the other node in a slot after t − `cycle` − `bound` and not after
+/// the start of cycle k, then no incarnation, of whatever node, installs a vector with that node in
+/// cycle k.
 ///
-/// It asks for nothing of the node that is heard no more: whether it stopped, runs, or started again.
-/// The node need not stay in the view until the cycle starts: if it leaves before, it does not come
-/// back. A JOIN from before slot t counts for `cycle` + `bound` slots, since an incarnation that began
-/// lately may have kept it while the others had the node in their views.
+/// It asks for nothing of the node that is heard no more: whether it stopped, runs, or started
+/// again. The node need not stay in the view until the cycle starts: if it leaves before, it does
+/// not come back. A JOIN from before slot t counts for `cycle` + `bound` slots, since an
+/// incarnation that began lately may have kept it while the others had the node in their views.
 pub fn removal()
     ensures { (scenario : ScenarioParts) (journal : List Step) → IsLegalScenario scenario
         → IsWithin scenario.params (run scenario journal).trace → (i r t k : ℕ) (e : EndedIncarnation) → r < scenario.params.nodes

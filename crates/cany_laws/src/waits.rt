@@ -12,10 +12,11 @@ ghost use Rattle.cany_model.specs.Rules.Sends.{is_sent_at_once};
 ghost use Rattle.cany_model.specs.Runs.Run.{run};
 ghost use Rattle.cany_laws.specs.Waits.{HasAskedBy, HasDeliveredBy, IsAwaitedThrough, WasCarriedIn, least_left, most_taken, interference, waits_since, window};
 
-/// How long a frame waits: in every run within the fault hypothesis of a legal scenario, let running
-/// nodes wait with a frame of one identity in n consecutive slots, none of which carries it Clean.
-/// Then n is at most the sum of two numbers: how many of these slots carry Clean a frame that wins
-/// over it and is of the classes FDA to ED; and `most_taken` times the number of windows of
+/// How long a frame waits: in every run within the fault hypothesis of a legal scenario, let
+/// running nodes wait with a frame of one identity in n consecutive slots, none of which carries it
+/// Clean. Then n is at most the sum of two numbers: how many of these slots carry Clean a frame
+/// that wins over it and is of the classes FDA to ED; and `most_taken` times the number of windows
+/// of
 /// `bound` + `lag` slots that n slots need, the last one perhaps in part.
 ///
 /// `most_taken` is 3N² + 2N + `errors`, with N nodes: at most so many slots of a window carry an
@@ -53,9 +54,9 @@ pub fn carried_in_windows()
 /// the classes FDA to ED, the frame is carried Clean by slot t + `lag` + w * (`bound` + `lag`),
 /// perhaps before the first window.
 ///
-/// It holds of the messages of all three protocols. For EDCAN and RELCAN t may be the scripted slot:
-/// an origin that has asked had asked by its turn of it. A message of TOTCAN is asked for only when
-/// the origin has read its own transmission of each one before it in the backlog, and
+/// It holds of the messages of all three protocols. For EDCAN and RELCAN t may be the scripted
+/// slot: an origin that has asked had asked by its turn of it. A message of TOTCAN is asked for
+/// only when the origin has read its own transmission of each one before it in the backlog, and
 /// `bound` + `lag` slots have passed since the last of them; the law does not say when that is.
 pub fn message_is_carried()
     ensures asked { (scenario : ScenarioParts) (journal : List Step) (m : Message) → Contains (messages_of scenario.sends) m
@@ -71,8 +72,8 @@ pub fn message_is_carried()
 {}
 
 /// Delivery at the latest with the Clean slot: a message of EDCAN or RELCAN whose data frame was
-/// carried Clean in a slot c has been delivered in slot c or an earlier one by each correct node that
-/// takes part since c and has read slot c.
+/// carried Clean in a slot c has been delivered in slot c or an earlier one by each correct node
+/// that takes part since c and has read slot c.
 ///
 /// So if a node takes part since slot 0, and `message_is_carried` says by when the frame is carried
 /// Clean, the node delivers the message by then, once it has read that far. Of a node that takes

@@ -1,4 +1,5 @@
--- The signs that silence brings by what a value has are those that it brings by what the node knows.
+-- The signs that silence brings by what a value has are those that it brings by what the node
+-- knows.
 use Rattle.std.proofs.Common.{◌≡◌, ℕ, zero, suc, ◌+◌, ◌<◌, ◌≤◌, ◌/◌, Bool, true, false, if◌then◌else◌, not, List, [], ◌∷◌, ◌++◌, filter, map, refl, ap, sym, ◌∙◌, arith, add-one}
 use Rattle.std.specs.List.{AllByRecursion, flat_map, range_with_len}
 use Rattle.std.proofs.lemmas.List.{map-append, map-id}

@@ -1,4 +1,5 @@
--- The signs that silence brings, one node after another: a sign of one node disturbs nothing by which another is found.
+-- The signs that silence brings, one node after another: a sign of one node disturbs nothing by
+-- which another is found.
 use Rattle.std.proofs.Common.{◌≡◌, ◌≢◌, ℕ, zero, suc, ◌+◌, ◌/◌, ◌<◌, ◌==◌, ◌&&◌, ◌||◌, Bool, true, false, inl, inr, List, [], ◌∷◌, ◌++◌, length, set, refl, ap, sym, ◌∙◌, arith, add-one, append_assoc}
 use Rattle.std.specs.List.{AllByRecursion}
 use Rattle.std.proofs.lemmas.Bool.{cases_eq, cond_both, lt-ltb, ne_eqb}

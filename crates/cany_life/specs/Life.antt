@@ -15,9 +15,9 @@ use Rattle.cany_model.specs.Rules.Notices.{HasFewSigns, IsNextNotice}
 use Rattle.cany_model.specs.Rules.Rooms.{cycles}
 use Rattle.cany_model.specs.Rules.Knowledge.{FailureSign, Knowledge, fda_of, after_finding, knows, same_sign}
 
--- the node, the parameters, the nodes that have failed here, for each cycle the nodes whose sign of that cycle is known, the copies of
--- the frames of signs, for each node the slot in which it last showed life, that of the node's own last life, and how many life signs
--- of its own it has sent
+-- the node, the parameters, the nodes that have failed here, for each cycle the nodes whose sign of
+-- that cycle is known, the copies of the frames of signs, for each node the slot in which it last
+-- showed life, that of the node's own last life, and how many life signs of its own it has sent
 pub record LifeParts : Type 0 where
   pub node : ℕ
   pub params : Parameters
@@ -43,8 +43,8 @@ pub record IsSignNumber (scenario : ScenarioParts) (number : ℕ) : Type 0 where
   pub of : IsSignOf scenario sign
   pub stands : sign_number sign ≡ number
 
--- The table has of each sign the copies of its frame that stand in these notices. All that is there is of signs that there can be, and
--- there is room for each of them.
+-- The table has of each sign the copies of its frame that stand in these notices. All that is there
+-- is of signs that there can be, and there is room for each of them.
 pub record AreCopies (scenario : ScenarioParts) (past : List NoticeKind) (table : EagerParts) : Type 0 where
   pub omit : table.omit ≡ scenario.params.omit
   pub room : table.room ≡ scenario.params.nodes * (cycles scenario + 1)
@@ -66,8 +66,9 @@ pub record AreKnown (scenario : ScenarioParts) (signs : List FailureSign) (sets 
   pub cycles : length sets ≡ cycles scenario + 1
   pub known : (sign : FailureSign) → IsSignOf scenario sign → has (known_in sets sign.cycle) sign.node ≡ list_any (same_sign sign) signs
 
--- What is kept of lives is what is known of them, for each node the slot in which it last showed life, and that of the node's own
--- last life; and the node has sent so many life signs of its own in these notices.
+-- What is kept of lives is what is known of them, for each node the slot in which it last showed
+-- life, and that of the node's own last life; and the node has sent so many life signs of its own
+-- in these notices.
 pub record AreLives (scenario : ScenarioParts) (i : ℕ) (past : List NoticeKind) (shown : ℕ → ℕ) (last : ℕ)
     (slots : List ℕ) (own sent : ℕ) : Type 0 where
   pub nodes : length slots ≡ most_nodes
@@ -76,8 +77,9 @@ pub record AreLives (scenario : ScenarioParts) (i : ℕ) (past : List NoticeKind
   pub are_sent : sent ≡ life_signs_sent i past
   pub few : HasFewSigns scenario i past (length past)
 
--- The value is that of node i after these notices, newest first, where it knows what this knowledge knows, its members left aside: they
--- are given to each call. The copies are those in notices of their own, since they are counted in the middle of a turn.
+-- The value is that of node i after these notices, newest first, where it knows what this knowledge
+-- knows, its members left aside: they are given to each call. The copies are those in notices of
+-- their own, since they are counted in the middle of a turn.
 pub record IsReading (scenario : ScenarioParts) (i : ℕ) (counted past : List NoticeKind) (knowledge : Knowledge) (v : LifeParts) : Type 0 where
   pub limits : HasLimitsOf scenario i v.node v.params
   pub failed : (r : ℕ) → has v.failed r ≡ has knowledge.failed r
@@ -94,7 +96,8 @@ pub record IsNextAt (scenario : ScenarioParts) (i : ℕ) (past : List NoticeKind
   pub next : IsNextNotice scenario past notice
   pub few : HasFewSigns scenario i (notice.kind ∷ past) notice.slot
 
--- there are notices, and what is known by them, that the value stands for, and this one can come after them
+-- there are notices, and what is known by them, that the value stands for, and this one can come
+-- after them
 pub record CanRead (v : LifeParts) (notice : Notice) : Type 0 where
   pub scenario : ScenarioParts
   pub past : List NoticeKind
@@ -113,8 +116,8 @@ pub record HasReadSlot (v : LifeParts) (slot : ℕ) : Type 0 where
 
 -- ---- an idle notice that leads to nothing
 
--- The value stands for one idle notice more as it is, and for what the node knew before it, its members too. The node finds nobody by
--- silence, and no life sign of its own is due.
+-- The value stands for one idle notice more as it is, and for what the node knew before it, its
+-- members too. The node finds nobody by silence, and no life sign of its own is due.
 pub record Rests (scenario : ScenarioParts) (i : ℕ) (past : List NoticeKind) (knowledge : Knowledge) (v : LifeParts) : Type 0 where
   pub stands : IsLifeOf scenario i (Idle ∷ past) knowledge v
   pub failures : failures_at scenario.params i Idle past knowledge ≡ []

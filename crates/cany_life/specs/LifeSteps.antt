@@ -1,4 +1,5 @@
--- What a notice, and a sign that becomes known, do to a value of life signs and failure signs, and the actions that a sign calls for.
+-- What a notice, and a sign that becomes known, do to a value of life signs and failure signs, and
+-- the actions that a sign calls for.
 use Rattle.std.specs.Prelude.{◌≡◌, ℕ, zero, suc, ◌+◌, ◌-◌, ◌<◌, ◌≤◌, ◌==◌, ◌&&◌, Bool, true, not, nat_le, if◌then◌else◌, List, [], ◌∷◌, ◌++◌, length, slice_index_or, slice_set}
 use Rattle.std.specs.List.{flat_map}
 use Rattle.cany_base.specs.Cycles.{cycle_of}
@@ -91,7 +92,8 @@ found_below v members slot (suc n) = found_below v members slot n ++ found_at v 
 abbrev pub found_actions : LifeParts → ℕ → List FailureSign → List Action
 found_actions v slot signs = flat_map (λ sign. sign_actions slot (has_enough_of v sign) sign) signs
 
--- the value can have signs of a slot by silence: the cycle of the slot is one of the run, and each node has its bit
+-- the value can have signs of a slot by silence: the cycle of the slot is one of the run, and each
+-- node has its bit
 pub record CanFind (v : LifeParts) (slot : ℕ) : Type 0 where
   pub cycle : 0 < v.params.cycle
   pub number : cycle_of v.params slot < most_numbers

@@ -27,7 +27,8 @@ count_by-append test xs ys = sum_by-append (λ x. cond (test x) 1 0) xs ys
 counts-append : (xs ys : List LogEntry) → counts_of (xs ++ ys) ≡ plus (counts_of xs) (counts_of ys)
 counts-append xs ys = rw (count_by-append is_delivery xs ys, count_by-append is_failure xs ys, count_by-append is_view xs ys) refl
 
--- Of the logs of the first i of these things the entries are counted, where each log has at most so many of a kind.
+-- Of the logs of the first i of these things the entries are counted, where each log has at most so
+-- many of a kind.
 pub record AreCounted {X : Type 0} (f : X → List LogEntry) (xs : List X) (most i : ℕ) (counts : EntryCounts) : Type 0 where
   pub value : counts ≡ counts_of (flat_map f (take i xs))
   pub few : AreAtMost (i * most) counts

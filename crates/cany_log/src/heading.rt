@@ -79,8 +79,8 @@ fn put_journal(journal: &[Step], first: usize, end: usize, page: &mut Page)
     }
 }
 
-/// How many lines a page has where the journal repeats itself after so many steps: the most that are
-/// a multiple of the steps, so that all whole pages are the same. None where it is not known to
+/// How many lines a page has where the journal repeats itself after so many steps: the most that
+/// are a multiple of the steps, so that all whole pages are the same. None where it is not known to
 /// repeat itself.
 fn same_lines(period: usize) -> usize
     ensures few { result ≤ 128 }
@@ -102,8 +102,8 @@ fn whole_pages(steps: usize, lines: usize) -> usize
     steps / STEPS / lines
 }
 
-/// Writes the first pages of the journal, so many, which are the same: the page of its first so many
-/// lines is put together once. The page is empty before and after.
+/// Writes the first pages of the journal, so many, which are the same: the page of its first so
+/// many lines is put together once. The page is empty before and after.
 fn write_same_pages<K: Sink>(
     journal: &[Step],
     lines: usize,

@@ -6,8 +6,8 @@ ghost use Rattle.cany_text.specs.ReportLines.{step_letter};
 
 use cany_base::{NodeId, Step};
 
-/// Writes the letters of some steps so that they end at a place of a row of bytes, and answers where
-/// they begin.
+/// Writes the letters of some steps so that they end at a place of a row of bytes, and answers
+/// where they begin.
 pub(crate) fn letters_before(row: &mut [u8], end: usize, steps: &[Step]) -> usize
     requires { (length steps.now ≤ end) × (end ≤ length row.old) }
     ensures start { result + length steps.now ≡ end }
@@ -49,8 +49,8 @@ fn number_of(step: Step) -> u8
     }
 }
 
-/// The letter at a place of the alphabet. It is found by comparisons and not looked up, so that LLVM
-/// makes many letters at a time.
+/// The letter at a place of the alphabet. It is found by comparisons and not looked up, so that
+/// LLVM makes many letters at a time.
 fn letter_of(number: u8) -> u8
     requires { number ≤ most_nodes }
     ensures { result ≡ letter_of number }

@@ -91,8 +91,8 @@ fn write_row<const ROOM: usize, K: Sink>(
 }
 
 /// Writes a line that begins with these words, by one call of the sink where it takes all. A line
-/// has at most [`MOST_LINE_BYTES`] bytes, its line feed included. It takes no memory. `Failed` comes
-/// only where the sink fails; what it took then is a beginning of the line.
+/// has at most [`MOST_LINE_BYTES`] bytes, its line feed included. It takes no memory. `Failed`
+/// comes only where the sink fails; what it took then is a beginning of the line.
 pub fn write_line<K: Sink>(
     words: &'static str,
     fields: &[Field],
@@ -105,9 +105,9 @@ pub fn write_line<K: Sink>(
     write_row::<MOST_LINE_BYTES, K>(words, fields, sink)
 }
 
-/// As [`write_line`], of a line of at most [`SHORT_LINE_BYTES`] bytes. Lines that a text has many of
-/// are short: the bytes of a line buffer are cleared before it is filled, which for a long one costs
-/// as much as filling it.
+/// As [`write_line`], of a line of at most [`SHORT_LINE_BYTES`] bytes. Lines that a text has many
+/// of are short: the bytes of a line buffer are cleared before it is filled, which for a long one
+/// costs as much as filling it.
 pub fn write_short_line<K: Sink>(
     words: &'static str,
     fields: &[Field],

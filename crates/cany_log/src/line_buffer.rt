@@ -1,6 +1,6 @@
-//! The bytes of a line, or of some lines, from the last one to the first: so the digits of a number, of which the
-//! last is known first, are written where they stay. A field is put before the others together with
-//! the space before it.
+//! The bytes of a line, or of some lines, from the last one to the first: so the digits of a
+//! number, of which the last is known first, are written where they stay. A field is put before the
+//! others together with the space before it.
 ghost use Rattle.std.specs.Prelude.{◌≡◌, ◌+◌, ◌<◌, ◌≤◌, ◌∷◌, ◌++◌, ◌==◌, [], if◌then◌else◌, codes, length, map, decimal};
 ghost use Rattle.cany_base.specs.declared.log_entry.LogEntry.TheVariants.{Deliver};
 ghost use Rattle.cany_log.specs.Fields.{most_byte_bytes, most_count_bytes, most_node_bytes, most_number_bytes, most_payload_bytes, most_set_bytes};

@@ -13,7 +13,8 @@ use crate::page::{PAGE_BYTES, Page, SHORT_LINES, write_page};
 use cany_io::{Failed, Sink};
 use cany_world::World;
 
-/// Puts the lines of the messages whose sends stand in the file from one place on to before another.
+/// Puts the lines of the messages whose sends stand in the file from one place on to before
+/// another.
 fn put_messages(world: &World, first: usize, end: usize, page: &mut Page)
     requires order { (first ≤ end) × (end ≤ length world.now.scenario.sends) }
     requires room { length page.old + SHORT_LINE_BYTES * (end - first) ≤ PAGE_BYTES }

@@ -1,4 +1,5 @@
--- What a node does in its turn rests on no fault rule: at a scenario with other rules it is the same.
+-- What a node does in its turn rests on no fault rule: at a scenario with other rules it is the
+-- same.
 use Rattle.std.proofs.Common.{◌≡◌, ℕ, zero, suc, ◌+◌, List, [], ◌∷◌, refl}
 use Rattle.cany_base.specs.declared.notice.NoticeKind.{NoticeKind}
 use Rattle.cany_base.specs.declared.rule.Rule.{Rule}

@@ -1,4 +1,5 @@
--- A run over two media: a run of the scenario, with another ruling in the slots that have no whole line.
+-- A run over two media: a run of the scenario, with another ruling in the slots that have no whole
+-- line.
 use Rattle.std.specs.Prelude.{ℕ, Bool, not, if◌then◌else◌, List, [], ◌∷◌, length}
 use Rattle.cany_base.specs.declared.rule.Rule.{Rule}
 use Rattle.cany_base.specs.declared.rule.Verdict.TheVariants.{Lost}

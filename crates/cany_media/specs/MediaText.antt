@@ -1,4 +1,5 @@
--- What the command `media` writes: a line for each fault of a line, and the report of the run; or the line of its own refusal.
+-- What the command `media` writes: a line for each fault of a line, and the report of the run; or
+-- the line of its own refusal.
 use Rattle.std.specs.Prelude.{ℕ, List, [], ◌∷◌, ◌++◌, codes, decimal}
 use Rattle.std.specs.List.{flat_map}
 use Rattle.cany_base.specs.declared.step.Step.{Step}
@@ -29,7 +30,8 @@ medium_lines faults = flat_map medium_line faults
 abbrev pub media_text : List FaultParts → ScenarioParts → List Step → List ℕ
 media_text faults scenario journal = medium_lines faults ++ report scenario journal
 
--- the place of the first fault that shares a slot with an earlier one, or how many rules the scenario of one bus would have
+-- the place of the first fault that shares a slot with an earlier one, or how many rules the
+-- scenario of one bus would have
 unfoldable pub media_refusal_line : MediaRefusal → List ℕ
 media_refusal_line (Overlap index) = line_of (codes "refused overlap" ∷ decimal index ∷ [])
 media_refusal_line (TooMany rules) = line_of (codes "refused too many blind slots" ∷ decimal rules ∷ [])

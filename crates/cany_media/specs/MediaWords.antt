@@ -1,4 +1,5 @@
--- The words of the command `media`: the word of the command, and then a word for each fault of a line, as `0:5-9:down` or
+-- The words of the command `media`: the word of the command, and then a word for each fault of a
+-- line, as `0:5-9:down` or
 -- `1:5-9:split:0,2`.
 use Rattle.std.specs.Prelude.{ℕ, ◌==◌, nat_le, nat_lt, if◌then◌else◌, List, [], ◌∷◌, Option, Some, None, option_map, option_and_then, codes, IsSome}
 use Rattle.std.specs.List.{slice_split}

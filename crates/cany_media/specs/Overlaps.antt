@@ -4,7 +4,8 @@ use Rattle.std.specs.List.{list_any, range_with_len}
 use Rattle.std.specs.Option.{option_map_or}
 use Rattle.cany_media.specs.Plan.{FaultParts}
 
--- whether the two are of one line, and the later of their beginnings is not past the earlier of their ends
+-- whether the two are of one line, and the later of their beginnings is not past the earlier of
+-- their ends
 abbrev pub do_share : FaultParts → FaultParts → Bool
 do_share a b = a.line == b.line && nat_le (max a.from b.from) (min a.to b.to)
 

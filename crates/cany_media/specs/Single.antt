@@ -1,4 +1,5 @@
--- The scenario of one bus that stands for one over two media: a rule at each slot that has no whole line.
+-- The scenario of one bus that stands for one over two media: a rule at each slot that has no whole
+-- line.
 use Rattle.std.specs.Prelude.{ℕ, ◌++◌, ◌&&◌, Bool, false, nat_lt, not, List, filter, map}
 use Rattle.std.specs.List.{range_with_len}
 use Rattle.cany_base.specs.declared.rule.Rule.{Rule}

@@ -1,4 +1,5 @@
--- The command `media`: what it refuses, which scenario it runs, what it writes, and what its success says.
+-- The command `media`: what it refuses, which scenario it runs, what it writes, and what its
+-- success says.
 use Rattle.std.specs.Prelude.{◌≡◌, ◌≤◌, ℕ, nat_le, if◌then◌else◌, List, [], length, Option, unwrap_or, option_map, option_and_then, Ok, Err}
 use Rattle.cany_base.specs.declared.step.Step.{Step}
 use Rattle.cany_base.specs.Limits.{most_rules}
@@ -51,7 +52,8 @@ media_command = record {
   is_success = λ status. status ≡ DONE;
 }
 
--- what success says of the faults, of the scenario that was read, and of what the sink had taken before and has taken now
+-- what success says of the faults, of the scenario that was read, and of what the sink had taken
+-- before and has taken now
 pub record IsMedia (faults : List FaultParts) (scenario : ScenarioParts) (old new : Option (List ℕ)) : Type 0 where
   -- a line for each fault was written, and then the report of the scenario of one bus
   pub written : Takes old (media_text faults (single_bus scenario faults) (journal_of (single_bus scenario faults))) new

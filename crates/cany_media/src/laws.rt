@@ -1,4 +1,5 @@
-//! What holds of every run over two media: each law is the contract of a function that does nothing.
+//! What holds of every run over two media: each law is the contract of a function that does
+//! nothing.
 ghost use Rattle.std.specs.Prelude.{◌≡◌, ◌<◌, ◌≤◌, ℕ, Bool, true, List};
 ghost use Rattle.cany_base.specs.declared.step.Step.{Step};
 ghost use Rattle.cany_base.specs.Limits.{most_nodes};
@@ -12,8 +13,8 @@ ghost use Rattle.cany_media.specs.Single.{single_bus};
 
 /// The single bus: the run over two media is the run of the scenario of one bus, by every journal.
 ///
-/// It asks for nothing of the scenario, of the plan or of the journal. So what is promised of runs is
-/// promised of runs over two media.
+/// It asks for nothing of the scenario, of the plan or of the journal. So what is promised of runs
+/// is promised of runs over two media.
 pub fn one_bus()
     ensures { (scenario : ScenarioParts) (plan : List FaultParts) (journal : List Step)
         → media_run scenario plan journal ≡ run (single_bus scenario plan) journal }
@@ -26,8 +27,8 @@ pub fn one_level()
         → has_whole nodes lines ≡ true → level_at lines nodes sent i ≡ bus_level nodes sent }
 {}
 
-/// Failures of one line at a time change nothing: where each slot has a whole line, the run over two
-/// media is the run of the scenario itself.
+/// Failures of one line at a time change nothing: where each slot has a whole line, the run over
+/// two media is the run of the scenario itself.
 pub fn one_line_is_enough()
     ensures { (scenario : ScenarioParts) (plan : List FaultParts) (journal : List Step)
         → ((slot : ℕ) → slot < scenario.params.slots → has_whole scenario.params.nodes (lines_at plan slot) ≡ true)

@@ -40,8 +40,8 @@ impl From<AllocError> for MediaFault {
     }
 }
 
-/// What is planned for the two lines of a run: faults in the order given, of which no two of one line
-/// share a slot. Of its slots those that the run has not are of no effect.
+/// What is planned for the two lines of a run: faults in the order given, of which no two of one
+/// line share a slot. Of its slots those that the run has not are of no effect.
 #[derive(Drop)]
 pub struct MediaPlan {
     faults: Vec<LineFault>,

@@ -94,8 +94,8 @@ fn stops_in(script: &Script, slot: Slot) -> NodeSet
     stops
 }
 
-/// Appends the rules of the slots without a whole line: in each the frame is lost, and the nodes stop
-/// that stopped there before.
+/// Appends the rules of the slots without a whole line: in each the frame is lost, and the nodes
+/// stop that stopped there before.
 fn add_blind_rules(rules: &mut Vec<Rule>, script: &Script, slots: &[Slot]) -> Result<(), Memory>
     ensures { OnOk result (rules.new.items ≡ rules.old.items ++ map (blind_rule script.now) slots.now) }
 {

@@ -25,8 +25,8 @@ impl LineTables {
         }
     }
 
-    /// Enters a fault, unless it shares a slot with an earlier one of its line. It answers whether it
-    /// does not.
+    /// Enters a fault, unless it shares a slot with an earlier one of its line. It answers whether
+    /// it does not.
     pub(crate) fn enter(&mut self, fault: &LineFault) -> Result<bool, Memory>
         ensures taken { (faults : List FaultParts) → AreTablesOf faults self.old → result ≡ Ok false → is_taken faults fault.now ≡ true }
         ensures free { (faults : List FaultParts) → AreTablesOf faults self.old → result ≡ Ok true → is_taken faults fault.now ≡ false }

@@ -1,5 +1,5 @@
-//! What is planned, and what comes of a slot, may move to another thread and be shared by threads, as
-//! the bounds below show.
+//! What is planned, and what comes of a slot, may move to another thread and be shared by threads,
+//! as the bounds below show.
 
 use crate::line::{Line, LineFault};
 use crate::outcome::MediaOutcome;

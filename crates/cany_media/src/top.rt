@@ -153,10 +153,10 @@ impl Command for Media {
     ghost no_fault = { done_is_no_fault };
 }
 
-/// Runs over two media: takes the faults of the lines from the words, reads a scenario text from the
-/// source, runs the scenario of one bus whose run is that over both lines, by its own journal or,
-/// where it has none, by its round robin journal, and writes a line for each fault and the report of
-/// the run to the sink. It answers the status of the program, one of those in
+/// Runs over two media: takes the faults of the lines from the words, reads a scenario text from
+/// the source, runs the scenario of one bus whose run is that over both lines, by its own journal
+/// or, where it has none, by its round robin journal, and writes a line for each fault and the
+/// report of the run to the sink. It answers the status of the program, one of those in
 /// `cany_command::status`. The words are `media` and any number of words `LINE:FROM-TO:down` and
 /// `LINE:FROM-TO:split:SET`; causes are looked at in this order: the words, faults that share a slot,
 /// the reading, the text, too many slots without a whole line, the journal, the writing.
@@ -171,7 +171,8 @@ pub fn media_top<S: Source, K: Sink>(
         (record { bytes = S.left; faults = S.faults; old = source.old; new = source.new })
         (record { bytes = K.taken; faults = K.faults; old = sink.old; new = sink.new }) result }
 
-    // What success says of the run over two media. Here `said` are the words, and `bytes` all that the source had.
+    // What success says of the run over two media. Here `said` are the words, and `bytes` all that
+    // the source had.
     ensures done { let said = map string_bytes words.now in result ≡ DONE → IfSome (S.left source.old) (λ bytes. IsOkAnd (scenario_of bytes) (λ scenario.
         IsMedia (faults_of said) scenario (K.taken sink.old) (K.taken sink.new))) }
 {

@@ -1,4 +1,5 @@
--- The messages of a scenario of one send, or of two equal ones, and the notices of their data frames.
+-- The messages of a scenario of one send, or of two equal ones, and the notices of their data
+-- frames.
 use Rattle.std.proofs.Common.{◌≡◌, ◌<◌, ℕ, List, [], ◌∷◌, Contains, count_by, length, refl, ap, arith, eq-eqb}
 use Rattle.cany_base.specs.declared.class.Class.{Class}
 use Rattle.cany_base.specs.declared.message.SendAsk.{SendAsk}

@@ -1,5 +1,5 @@
--- What a notice of a data frame calls for, as actions: the delivery, then the reply. What RELCAN calls for at the end of a timer in the
--- same turn comes after these.
+-- What a notice of a data frame calls for, as actions: the delivery, then the reply. What RELCAN
+-- calls for at the end of a timer in the same turn comes after these.
 use Rattle.std.specs.Prelude.{ℕ, List, [], ◌∷◌, ◌++◌}
 use Rattle.cany_base.specs.declared.actions.Action.{Action}
 use Rattle.cany_base.specs.declared.actions.Action.TheVariants.{Ask, Withdraw}

@@ -15,9 +15,10 @@ use Rattle.cany_message.specs.Numbers.{message_number, message_numbers}
 abbrev pub frame_identity : Class → (seq origin : ℕ) → Identity
 frame_identity class seq origin = record { class = class; number = seq; node = origin }
 
--- The table has, of each frame of the class that names a message, the copies that stand in these notices, and for the origins
--- of which the node notes it also whether its own transmission does. All that is there is of messages of the scenario by the
--- service, and there is room for each of them.
+-- The table has, of each frame of the class that names a message, the copies that stand in these
+-- notices, and for the origins of which the node notes it also whether its own transmission does.
+-- All that is there is of messages of the scenario by the service, and there is room for each of
+-- them.
 pub record IsTableOf (scenario : ScenarioParts) (by : Service) (class : Class) (notes : ℕ → Bool)
     (past : List NoticeKind) (table : EagerParts) : Type 0 where
   pub omit : table.omit ≡ scenario.params.omit

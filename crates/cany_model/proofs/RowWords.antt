@@ -1,4 +1,5 @@
--- What worked rows are written with, here and in the crates above: scenarios, and the words that compute a run.
+-- What worked rows are written with, here and in the crates above: scenarios, and the words that
+-- compute a run.
 use Rattle.std.specs.Prelude.{ℕ, List, [], None, zero, suc}
 use Rattle.cany_base.specs.Nodes.{Nodes, has, bits_where, those_where}
 use Rattle.cany_base.specs.Params.{Parameters}
@@ -79,7 +80,8 @@ unfoldable pub run_words : Unit {0}
 unfolding has bits_where those_where same_class same_identity same_frame is_before messages_after node_at put_in_order least_frame winner script share_of after_share slot_note_of node_after nodes_after after_slot names_restart after_entries nodes_after_entries after_restarts is_hidden as_seen history copies has_own waiting_after entered eager_effects delivery_effects edcan_at edcan_effects fell_back relcan_at timer_effects relcan_effects send_effects tot_in is_recent after_place is_heard is_accepted accept_effects closing_effects is_clear done_from delivered_tot delivered_now totcan_effects shows_life after_life with_signs told found after_notice knowledge_of failure_sign_effects fda_copy_effects failure_effects failures_at life_signs_sent life_effects brought met is_just is_covered is_new vector_effects end_effects start_effects exchange_at exchange_effects after_ask with_ended view_effects install_effects ask_effects backlog asked backlog_effects is_service turn_effects has_asked log_from first_lagging reply after_turn proceed after_step run_from round rounds break_at first_break count_together is_legal_from is_settled
 run_words = tt
 
--- Where so many rounds lead. The round robin journal has the steps of the states to which its rounds lead, so the run of it computes each of them twice.
+-- Where so many rounds lead. The round robin journal has the steps of the states to which its
+-- rounds lead, so the run of it computes each of them twice.
 unfoldable pub after_rounds : ScenarioParts → ℕ → RunState → RunState
 after_rounds sc zero s = s
 after_rounds sc (suc n) s = after_rounds sc n (run_from sc s (round sc s))

@@ -1,4 +1,5 @@
--- The timed guarantees: few frames in a window, the quiet slot, acceptance, one order, one view, and the failure detector.
+-- The timed guarantees: few frames in a window, the quiet slot, acceptance, one order, one view,
+-- and the failure detector.
 pub mod Common
 pub mod Detector
 pub mod Guarantees

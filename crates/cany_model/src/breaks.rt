@@ -1,6 +1,7 @@
 use cany_base::Slot;
 
-/// The first slot at which a run leaves the fault hypothesis, and the clause of it that fails there.
+/// The first slot at which a run leaves the fault hypothesis, and the clause of it that fails
+/// there.
 #[derive(Clone, Copy, Debug, PartialEq, Eq)]
 pub struct Break {
     pub kind: BreakKind,

@@ -1,4 +1,5 @@
-//! What a run is, and what is promised of it: the definitions that every contract above cites, and their laws.
+//! What a run is, and what is promised of it: the definitions that every contract above cites, and
+//! their laws.
 #![tactic(auto)]
 
 mod breaks;

@@ -1,4 +1,5 @@
--- A turn from its parts: what the protocols and the script list is done, and the node stands for the notice too.
+-- A turn from its parts: what the protocols and the script list is done, and the node stands for
+-- the notice too.
 use Rattle.std.proofs.Common.{◌≡◌, ℕ, ◌+◌, ◌≤◌, List, [], ◌∷◌, ◌++◌, count_by, length, refl, ap, sym, subst, ◌∙◌, arith}
 use Rattle.std.specs.List.{AllByRecursion}
 use Rattle.std.proofs.lemmas.List.{length-append}
@@ -216,8 +217,8 @@ module _ (scenario : ScenarioParts) (past : List NoticeKind) (notice : Notice) (
 
 -- ---- the turn, whatever the node has heard
 
--- What the rules say of the notice is listed. `w` is the node after it, but that its TOTCAN is `t`, which has asked for the next message
--- of the backlog too.
+-- What the rules say of the notice is listed. `w` is the node after it, but that its TOTCAN is `t`,
+-- which has asked for the next message of the backlog too.
 pub record IsListed (scenario : ScenarioParts) (past : List NoticeKind) (notice : Notice) (v w : NodeParts) (t : TotcanParts) (actions : List Action) : Type 0 where
   pub same : IsSame v w
   pub scripted : HasScripted scenario past notice.kind w

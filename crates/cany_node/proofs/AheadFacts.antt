@@ -13,7 +13,8 @@ or_false : (b : Bool) → b ≡ (b || false)
 or_false true = refl
 or_false false = refl
 
--- of a message of EDCAN nothing is ahead, of one of RELCAN a timer alone, and of one of TOTCAN a closing alone
+-- of a message of EDCAN nothing is ahead, of one of RELCAN a timer alone, and of one of TOTCAN a
+-- closing alone
 module _ (scenario : ScenarioParts) (m : Message) (i : ℕ) (past : List NoticeKind) where
   pub of_edcan : m.service ≡ Ed → false ≡ is_ahead_at scenario m i past
   unfolding is_service same_class

@@ -1,4 +1,5 @@
--- Whether a node has asked for a message, of those that it sends at once and of those of its backlog.
+-- Whether a node has asked for a message, of those that it sends at once and of those of its
+-- backlog.
 use Rattle.std.specs.Prelude.{nat_lt}
 use Rattle.std.proofs.Common.{◌≡◌, ◌≢◌, ℕ, zero, suc, ◌==◌, ◌&&◌, ◌||◌, Bool, true, false, not, List, [], ◌∷◌, length, take, Contains, refl, ap, sym, ◌∙◌, arith}
 use Rattle.std.specs.List.{AllByRecursion, list_any}

@@ -1,5 +1,6 @@
--- Where the next message of a backlog waits after an idle slot, it waits after any other notice too: to read the node's own transmission of
--- the last message that was asked for moves the place of that message, and it waits for that.
+-- Where the next message of a backlog waits after an idle slot, it waits after any other notice
+-- too: to read the node's own transmission of the last message that was asked for moves the place
+-- of that message, and it waits for that.
 use Rattle.std.specs.List.{AllByRecursion, list_all, list_any}
 use Rattle.std.proofs.Common.{◌≡◌, ℕ, zero, suc, ◌+◌, ◌-◌, ◌<◌, ◌≤◌, ◌&&◌, ◌||◌, Bool, true, false, not, inl, inr, List, [], ◌∷◌, ◌++◌, length, drop, take, None, refl, ap, sym, ◌∙◌, subst, arith}
 use Rattle.std.proofs.lemmas.Bool.{and_from, cases_Bool, or_right}
@@ -34,7 +35,8 @@ last_of P (m ∷ messages) (suc n) within all =
     let rest = last_of P messages n (omega (arith, within)) all.1 in
     record { last = rest.last; is = ap (λ ms. m ∷ ms) rest.is; has = rest.has }
 
--- the node's own transmission is read now, a copy is read now, it was before, and the place is recent
+-- the node's own transmission is read now, a copy is read now, it was before, and the place is
+-- recent
 later_free : (sent got own recent : Bool) → (own && not recent) ≡ false → ((sent || own) && not ((got || sent) || recent)) ≡ false
 later_free sent got own recent before = grind (arith, nat_tests, before)
 

@@ -105,7 +105,8 @@ asked_muted scenario i (e ∷ past) begun =
 
 -- ---- an incarnation of a restarted node
 
--- none of its sends is made before its first slot, and those of that slot and later ones are still to come
+-- none of its sends is made before its first slot, and those of that slot and later ones are still
+-- to come
 passed_agenda : (scenario : ScenarioParts) (i slot : ℕ) (old new : AgendaParts) → IsPlanOf scenario i old → ArePassed scenario.from old new
     → slot ≤ scenario.from → IsAgendaOf scenario i slot new
 passed_agenda scenario i slot old new plan passed early = record {
@@ -132,8 +133,8 @@ plan_for scenario inc i a plan =
 inc_later : (scenario : ScenarioParts) (inc : Incarnation) → 0 < inc.number → (scenario_for scenario inc).inc ≡ inc.number
 inc_later scenario inc later = rw (ne_eqb inc.number 0 (λ e. omega (arith, e, later))) refl
 
--- It takes part from this slot and this cycle on, as a node that is at first no member, and what its script has of earlier slots is
--- passed over.
+-- It takes part from this slot and this cycle on, as a node that is at first no member, and what
+-- its script has of earlier slots is passed over.
 pub record Begins (restart from cycle : ℕ) (membership : MembershipParts) (old new : NodeParts) : Type 0 where
   pub first : from ≡ restart + 1 + (old.params.bound + old.params.lag)
   pub outside : IsOutside old.membership membership

@@ -1,5 +1,5 @@
--- The turn of a frame of EDCAN or of RELCAN, or of none, in a slot for which nothing is due but a timer of RELCAN: TOTCAN, the site, the
--- script and the backlog have nothing to do.
+-- The turn of a frame of EDCAN or of RELCAN, or of none, in a slot for which nothing is due but a
+-- timer of RELCAN: TOTCAN, the site, the script and the backlog have nothing to do.
 use Rattle.std.proofs.Common.{◌≡◌, ℕ, List, [], ◌∷◌, ◌++◌, length, None, ap, sym, ◌∙◌, subst}
 use Rattle.cany_base.specs.declared.notice.NoticeKind.{NoticeKind}
 use Rattle.cany_base.specs.declared.notice.NoticeKind.TheVariants.{Idle}

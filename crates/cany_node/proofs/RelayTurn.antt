@@ -1,4 +1,5 @@
--- The turn of a notice that nothing but EDCAN and RELCAN hears, in a slot for which nothing else is due: what these two do is all of it.
+-- The turn of a notice that nothing but EDCAN and RELCAN hears, in a slot for which nothing else is
+-- due: what these two do is all of it.
 use Rattle.std.proofs.Common.{◌≡◌, ◌+◌, ◌≤◌, true, false, List, [], ◌∷◌, ◌++◌, refl, ap, sym, ◌∙◌, subst, append-nil, arith}
 use Rattle.std.proofs.lemmas.List.{map-append}
 use Rattle.can_frame.specs.Classes.{is_of_site}

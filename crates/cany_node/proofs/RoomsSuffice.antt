@@ -184,7 +184,8 @@ own_asks p i asks =
       count_by-le-length (λ ask. ask.node == i) asks,
     )
 
--- there is room for what the protocols do at a notice, for what the script asks for, and for the next of the backlog
+-- there is room for what the protocols do at a notice, for what the script asks for, and for the
+-- next of the backlog
 pub actions_within : (scenario : ScenarioParts) (past : List NoticeKind) (v : NodeParts) → IsNodeOf scenario past v
     → heard_room v + script_room v < actions_room scenario
 actions_within scenario past v stands =

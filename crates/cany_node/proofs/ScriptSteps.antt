@@ -53,7 +53,8 @@ module _ (scenario : ScenarioParts) (past : List NoticeKind) (notice : NoticeKin
   unfolding send_effects
   sends_are = ap (λ n. actions_of scenario.params.format (sent_asks v.node n (sendable scenario n))) now
 
-  -- what the parameters, the node, the slot and the members make is the same as of those of the scenario
+  -- what the parameters, the node, the slot and the members make is the same as of those of the
+  -- scenario
   same_asks : (asks : Parameters → ℕ → ℕ → Nodes → List Action)
       → asks v.membership.views.params v.membership.views.node slot v.membership.views.members ≡ asks scenario.params v.node (length past) members
   same_asks asks =

@@ -65,7 +65,8 @@ pub none_asked : (i s n : ℕ) (planned : List Planned) → s < n → IsRising n
 unfolding at_once
 none_asked i s n planned less up = once i s planned ∙ ap (λ ps. at_once (map (message_from i) ps)) (none_for s n planned less up)
 
--- what the loop keeps: what was asked for and what is still to be, together, and the sends of later slots
+-- what the loop keeps: what was asked for and what is still to be, together, and the sends of later
+-- slots
 pub record KeepsSending (i slot : ℕ) (old new : AgendaParts) (before after : List Action) : Type 0 where
   pub asks : (format : Format) → after ++ actions_of format (asks_for i slot new.left) ≡ before ++ actions_of format (asks_for i slot old.left)
   pub later : (s : ℕ) → slot < s → filter (is_for s) new.left ≡ filter (is_for s) old.left

@@ -1,5 +1,5 @@
--- A notice that may show life and tells nothing else of the site, in a slot for which nothing is due: the node knows who lives, and nothing
--- is done for the site.
+-- A notice that may show life and tells nothing else of the site, in a slot for which nothing is
+-- due: the node knows who lives, and nothing is done for the site.
 use Rattle.std.specs.Prelude.{nat_le}
 use Rattle.std.specs.List.{flat_map}
 use Rattle.std.proofs.Common.{◌≡◌, ◌⊎◌, ℕ, ◌+◌, ◌-◌, ◌<◌, ◌==◌, ◌&&◌, Bool, true, false, not, if◌then◌else◌, inl, inr, List, [], ◌∷◌, ◌++◌, filter, length, map, Option, Some, None, refl, ap, sym, ◌∙◌, subst, arith}
@@ -33,7 +33,8 @@ use Rattle.cany_node.proofs.TellsNothingOfTheSite.{IsLifeAtMost, history_same}
 
 -- ---- who lives
 
--- what is known is the same but for when a node, or this one, last showed life: it may be in this slot
+-- what is known is the same but for when a node, or this one, last showed life: it may be in this
+-- slot
 record KnowsWhoLives (slot : ℕ) (before after : Knowledge) : Type 0 where
   shown : ℕ → ℕ
   last : ℕ

@@ -1,4 +1,5 @@
--- What a turn asks for tells the incarnation, so that stamping it into what the protocols list gives just the turn.
+-- What a turn asks for tells the incarnation, so that stamping it into what the protocols list
+-- gives just the turn.
 use Rattle.std.proofs.Common.{◌≡◌, ℕ, Bool, true, false, if◌then◌else◌, List, [], ◌∷◌, ◌++◌, length, Option, Some, None, count_by, refl, ap, sym, ◌∙◌, subst, arith, append-nil, append_assoc}
 use Rattle.std.specs.List.{AllByRecursion, flat_map}
 use Rattle.std.proofs.lemmas.List.{map-append}

@@ -1,5 +1,5 @@
--- An identifier with the incarnation in it: withdrawing by it is withdrawing by identity, where the waiting frames are stamped with that
--- incarnation.
+-- An identifier with the incarnation in it: withdrawing by it is withdrawing by identity, where the
+-- waiting frames are stamped with that incarnation.
 use Rattle.std.proofs.Common.{◌≡◌, ℕ, ◌+◌, ◌^◌, ◌<◌, ◌≤◌, ◌==◌, Bool, true, false, not, if◌then◌else◌, List, [], ◌∷◌, filter, All, refl, ap, sym, ◌∙◌, arith, eqb-true}
 use Rattle.std.specs.Cmp.{both_ways}
 use Rattle.std.specs.Option.{option_map_or}

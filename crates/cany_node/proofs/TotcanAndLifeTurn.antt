@@ -1,5 +1,6 @@
--- The turn of a frame of TOTCAN or of a life sign, in a slot for which nothing is due: EDCAN, RELCAN, the script and the backlog have
--- nothing to do, so what TOTCAN does and what is done for the site is all of it.
+-- The turn of a frame of TOTCAN or of a life sign, in a slot for which nothing is due: EDCAN,
+-- RELCAN, the script and the backlog have nothing to do, so what TOTCAN does and what is done for
+-- the site is all of it.
 use Rattle.std.proofs.Common.{◌≡◌, ℕ, ◌+◌, ◌||◌, true, false, not, List, [], ◌∷◌, ◌++◌, length, None, refl, ap, sym, ◌∙◌, subst, append-nil, arith}
 use Rattle.cany_base.specs.declared.actions.Action.{Action}
 use Rattle.cany_base.specs.declared.class.Class.{Class}

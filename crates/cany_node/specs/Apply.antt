@@ -59,8 +59,9 @@ AreApplied inc actions ctl ctl' log log' =
     → actions ≡ actions_of scenario.params.format effects → AllByRecursion (NamesAskable scenario i) effects → AreStamped inc ctl.waiting
     → AreDone (all_stamped inc effects) ctl ctl' log log'
 
--- The actions are those of effects that an incarnation of node i can do: what they name may be asked for, there is room for all, and
--- what waits tells the incarnation. The life signs that wait and those that are asked for are three at most.
+-- The actions are those of effects that an incarnation of node i can do: what they name may be
+-- asked for, there is room for all, and what waits tells the incarnation. The life signs that wait
+-- and those that are asked for are three at most.
 pub record CanApply (inc : ℕ) (actions : List Action) (ctl : ControllerState) (log : Bounded LogEntry) : Type 0 where
   pub scenario : ScenarioParts
   pub node : ℕ

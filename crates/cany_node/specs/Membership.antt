@@ -1,4 +1,5 @@
--- What a node keeps of the site: life signs and failure signs, the exchange of vectors, and the view.
+-- What a node keeps of the site: life signs and failure signs, the exchange of vectors, and the
+-- view.
 use Rattle.std.specs.Prelude.{◌≡◌, ℕ, ◌+◌, ◌*◌, ◌<◌, ◌≤◌, Bool, false, [], ◌∷◌, ◌++◌, List, length, Option, None, IfSome, option_map, replicate}
 use Rattle.cany_base.specs.Bounded.{Bounded}
 use Rattle.cany_base.specs.declared.actions.Action.{Action}
@@ -44,8 +45,8 @@ pub record IsMembershipAtRest (scenario : ScenarioParts) (i : ℕ) (v : Membersh
   pub history : (n : ℕ) → IsHistoryOf scenario i (replicate n Idle) None v.history
   pub views : IsViewsOf scenario i (knowledge_at_first scenario.members) v.views
 
--- The notice can be the next that node i hears after these: it comes next, of the node's own life signs there are not too many with it,
--- and its vector can be read.
+-- The notice can be the next that node i hears after these: it comes next, of the node's own life
+-- signs there are not too many with it, and its vector can be read.
 pub record IsNextOf (scenario : ScenarioParts) (i : ℕ) (past : List NoticeKind) (notice : Notice) : Type 0 where
   pub next : IsNextNotice scenario past notice
   pub few : HasFewSigns scenario i (notice.kind ∷ past) notice.slot
@@ -62,7 +63,8 @@ tells_of_site Bad = false
 
 -- ---- in the middle of a turn
 
--- there is a scenario, and what node i has heard in it, that the value stands for, and this notice can come next
+-- there is a scenario, and what node i has heard in it, that the value stands for, and this notice
+-- can come next
 pub record CanHear (v : MembershipParts) (notice : Notice) : Type 0 where
   pub scenario : ScenarioParts
   pub node : ℕ
@@ -81,7 +83,8 @@ pub record KnowsOf (scenario : ScenarioParts) (i : ℕ) (past : List NoticeKind)
 abbrev pub ended_as : Parameters → ℕ → Option Nodes → Option Ended
 ended_as p slot vector = option_map (λ v. record { cycle = cycle_of p slot; vector = v }) vector
 
--- what the node knows once it has heard the notice, and met its vector with the one that the notice brings
+-- what the node knows once it has heard the notice, and met its vector with the one that the notice
+-- brings
 abbrev pub met_by : ScenarioParts → ℕ → Notice → List NoticeKind → Knowledge
 met_by scenario i notice past = after_meeting scenario.params i (length past) notice.kind (knowledge_of scenario i past)
 
@@ -135,7 +138,8 @@ membership_effects scenario i past =
 abbrev pub membership_room : MembershipParts → ℕ
 membership_room v = 2 * v.life.params.nodes + length v.views.joins + length v.views.leaves + 8
 
--- What is done for the site at a notice, what the value stands for then, and that there is no more of it than there may be.
+-- What is done for the site at a notice, what the value stands for then, and that there is no more
+-- of it than there may be.
 pub record IsFollowed (old new : MembershipParts) (notice : Notice) (before after : Bounded Action) : Type 0 where
   pub actions : (scenario : ScenarioParts) (i : ℕ) (past : List NoticeKind) → IsMembershipOf scenario i past old → IsNextOf scenario i past notice
       → after.items ≡ before.items ++ actions_of scenario.params.format (membership_effects scenario i (notice.kind ∷ past))

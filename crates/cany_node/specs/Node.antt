@@ -27,9 +27,10 @@ use Rattle.cany_node.specs.Asks.{AreAsksOf, IsAskPlanOf}
 use Rattle.cany_node.specs.Membership.{IsNextOf, IsMembershipAtRest, IsMembershipOf, MembershipParts}
 use Rattle.cany_node.specs.Stamping.{AreStamped}
 
--- its number, the number of its incarnation, the parameters, and the first slot and the first membership cycle in which this one takes
--- part; its log and how much the log can hold, how many notices it has read, the parts that its protocols keep, and its scripted sends
--- and asks that are still to come
+-- its number, the number of its incarnation, the parameters, and the first slot and the first
+-- membership cycle in which this one takes part; its log and how much the log can hold, how many
+-- notices it has read, the parts that its protocols keep, and its scripted sends and asks that are
+-- still to come
 pub record NodeParts : Type 0 where
   pub node : ℕ
   pub inc : ℕ
@@ -47,9 +48,10 @@ pub record NodeParts : Type 0 where
   pub joins : List ℕ
   pub leaves : List ℕ
 
--- What an incarnation hears of a slot: nothing before the first in which it takes part, and nothing of a vector of a membership cycle
--- before the first in which it does. The one of the opening takes part in all. An error is heard as an idle slot: whether the slot of an
--- error carried such a vector does not show in the notice.
+-- What an incarnation hears of a slot: nothing before the first in which it takes part, and nothing
+-- of a vector of a membership cycle before the first in which it does. The one of the opening takes
+-- part in all. An error is heard as an idle slot: whether the slot of an error carried such a
+-- vector does not show in the notice.
 abbrev pub heard : ℕ → ℕ → ℕ → ℕ → NoticeKind → NoticeKind
 heard inc from cycle slot kind = if not (inc == 0) && (nat_lt slot from || is_early cycle kind) then Idle else error_as_idle kind
 
@@ -62,7 +64,8 @@ abbrev pub AreReadable : ScenarioParts → List NoticeKind → Type 0
 AreReadable scenario [] = Unit {0}
 AreReadable scenario (kind ∷ past) = IsReadable scenario (length past) kind × AreReadable scenario past
 
--- the node stands for what it has heard, newest first, in the scenario as its incarnation follows it
+-- the node stands for what it has heard, newest first, in the scenario as its incarnation follows
+-- it
 pub record IsNodeOf (scenario : ScenarioParts) (past : List NoticeKind) (v : NodeParts) : Type 0 where
   pub legal : IsLegalScenario scenario
   pub inc : v.inc ≡ scenario.inc
@@ -80,8 +83,8 @@ pub record IsNodeOf (scenario : ScenarioParts) (past : List NoticeKind) (v : Nod
   pub leaves : AreAsksOf scenario v.node (length past) scenario.leaves v.leaves
   pub room_to_give : length v.totcan.backlog.given + length v.agenda.left ≤ v.totcan.backlog.room
 
--- The node was built for a run of the scenario and has made no turn. It stands for nothing yet: its protocols are as they are
--- after any number of idle slots.
+-- The node was built for a run of the scenario and has made no turn. It stands for nothing yet: its
+-- protocols are as they are after any number of idle slots.
 pub record IsWaiting (scenario : ScenarioParts) (v : NodeParts) : Type 0 where
   pub legal : IsLegalScenario scenario
   pub params : v.params ≡ scenario.params
@@ -103,7 +106,8 @@ pub record CanBegin (v : NodeParts) (restart : ℕ) : Type 0 where
   pub later : 0 < v.inc
   pub within : restart < scenario.params.slots
 
--- a turn can be made: the controller is that of the node in a run of the scenario, and continues what the node has read
+-- a turn can be made: the controller is that of the node in a run of the scenario, and continues
+-- what the node has read
 pub record CanTurn (v : NodeParts) (ctl : ControllerState) (out : Bounded Action) : Type 0 where
   pub scenario : ScenarioParts
   pub past : List NoticeKind
@@ -146,8 +150,8 @@ reply_at read None None = NothingYet read
 abbrev pub reply_of : ControllerState → TurnReply
 reply_of ctl = reply_at ctl.read (slice_get ctl.unread 0) ctl.stopped
 
--- the node reads this notice next, after what it stands for, and can hear it: of its own life signs there are not too many with it, and
--- its vector can be read
+-- the node reads this notice next, after what it stands for, and can hear it: of its own life signs
+-- there are not too many with it, and its vector can be read
 pub record Reads (scenario : ScenarioParts) (past : List NoticeKind) (notice : Notice) (v : NodeParts) (ctl : ControllerState) : Type 0 where
   pub stands : IsNodeOf scenario past v
   pub next : IsNextNotice scenario past (heard_by v notice)
@@ -164,7 +168,8 @@ turned effects ctl = record ctl {
   waiting = waiting_after effects ctl.waiting;
 }
 
--- the node has read the notice: it stands for what it heard, and its controller waits with what the rules say
+-- the node has read the notice: it stands for what it heard, and its controller waits with what the
+-- rules say
 pub record IsTurnOf (scenario : ScenarioParts) (past : List NoticeKind) (notice : Notice) (v v' : NodeParts) (ctl ctl' : ControllerState) : Type 0 where
   pub controller : ctl' ≡ turned (turn_effects scenario v.node ((heard_by v notice).kind ∷ past)) ctl
   pub stands : IsNodeOf scenario ((heard_by v notice).kind ∷ past) v'

@@ -10,7 +10,8 @@ use Rattle.cany_node.specs.declared.protocols.AllButEdcan.{AllButEdcan}
 use Rattle.cany_node.specs.declared.protocols.Protocols.{Protocols}
 use Rattle.cany_node.specs.declared.protocols.MembershipAndRelcan.{MembershipAndRelcan}
 
--- what is kept of the site is that of node i after any number of idle slots, whoever its members are, and so is RELCAN
+-- what is kept of the site is that of node i after any number of idle slots, whoever its members
+-- are, and so is RELCAN
 pub record AreMembershipAndRelcanAtRest (scenario : ScenarioParts) (i : ℕ) (p : MembershipAndRelcan) : Type 0 where
   pub membership : IsMembershipAtRest scenario i p.membership
   pub relcan : (n : ℕ) → IsRelcanOf scenario i (replicate n Idle) p.relcan

@@ -1,5 +1,6 @@
--- The turns of idle slots in which a node has nothing to do: it stands for them as it is. In a slot for which nothing but a timer of
--- RELCAN is due, it does at a frame of EDCAN or of RELCAN no more than what these two do.
+-- The turns of idle slots in which a node has nothing to do: it stands for them as it is. In a slot
+-- for which nothing but a timer of RELCAN is due, it does at a frame of EDCAN or of RELCAN no more
+-- than what these two do.
 use Rattle.std.specs.Prelude.{◌≡◌, ◌+◌, ◌<◌, ◌≤◌, ◌||◌, ℕ, Bool, false, true, List, [], ◌∷◌, length}
 use Rattle.cany_base.specs.declared.class.Class.{Class}
 use Rattle.cany_base.specs.declared.class.Class.TheVariants as class
@@ -25,13 +26,14 @@ pub record MembershipRests (scenario : ScenarioParts) (i : ℕ) (past : List Not
   pub effects : membership_effects scenario i (Idle ∷ past) ≡ []
   pub knowledge : knowledge_of scenario i (Idle ∷ past) ≡ knowledge_of scenario i past
 
--- after one more idle slot the node is as it was, but that it has read one more notice, and nothing is done in the turn
+-- after one more idle slot the node is as it was, but that it has read one more notice, and nothing
+-- is done in the turn
 pub record Rests (scenario : ScenarioParts) (past : List NoticeKind) (v : NodeParts) : Type 0 where
   pub stands : IsNodeOf scenario (Idle ∷ past) (record v { read = length past + 1 })
   pub effects : turn_effects scenario v.node (Idle ∷ past) ≡ []
 
--- The node rests in each slot before this one from which it has read on, once it stands for what it has heard before the slot. That
--- is so after idle slots in which it rested.
+-- The node rests in each slot before this one from which it has read on, once it stands for what it
+-- has heard before the slot. That is so after idle slots in which it rested.
 abbrev pub RestsUntil : ℕ → NodeParts → Type 0
 RestsUntil wake v =
     (scenario : ScenarioParts) (past : List NoticeKind) → IsNodeOf scenario past (record v { read = length past })
@@ -89,8 +91,9 @@ SiteRestsUntil read idle_until v =
     (scenario : ScenarioParts) (i : ℕ) (past : List NoticeKind) → IsMembershipOf scenario i past v → read ≤ length past → length past < idle_until
     → length past < scenario.params.slots → MembershipRests scenario i past v
 
--- In an idle slot before this one, from which the node has read on, no part of it but EDCAN and RELCAN has anything to do. EDCAN has
--- nothing to do in any, and RELCAN tells itself when its next timer is due.
+-- In an idle slot before this one, from which the node has read on, no part of it but EDCAN and
+-- RELCAN has anything to do. EDCAN has nothing to do in any, and RELCAN tells itself when its next
+-- timer is due.
 pub record IsIdleUntil (idle_until : ℕ) (v : NodeParts) : Type 0 where
   pub totcan : TotcanRestsUntil idle_until v.totcan
   pub membership : SiteRestsUntil v.read idle_until v.membership

@@ -1,4 +1,5 @@
--- The incarnation in the frames that a node asks for, and in the identifiers of those that it withdraws.
+-- The incarnation in the frames that a node asks for, and in the identifiers of those that it
+-- withdraws.
 use Rattle.std.specs.Prelude.{◌≡◌, ℕ, ◌+◌, true, if◌then◌else◌, List}
 use Rattle.std.specs.List.{AllByRecursion}
 use Rattle.cany_base.specs.Frame.{FrameParts, has_incarnation}

@@ -1,5 +1,5 @@
--- A turn in parts: what the protocols do at the notice, and then what the script asks for. The frames are not stamped with the incarnation
--- yet.
+-- A turn in parts: what the protocols do at the notice, and then what the script asks for. The
+-- frames are not stamped with the incarnation yet.
 use Rattle.std.specs.Prelude.{◌≡◌, ◌+◌, ◌<◌, ◌≤◌, ℕ, List, [], ◌∷◌, ◌++◌, length}
 use Rattle.std.specs.List.{flat_map}
 use Rattle.cany_base.specs.declared.actions.Action.{Action}
@@ -93,8 +93,9 @@ pub record HasScripted (scenario : ScenarioParts) (past : List NoticeKind) (noti
   pub leaves : AreAsksOf scenario v.node (length past + 1) scenario.leaves v.leaves
   pub room_to_give : length v.totcan.backlog.given + length v.agenda.left ≤ v.totcan.backlog.room
 
--- The notice is done, as the node heard it: for each history that the node stood for and that the notice continues, the controller waits
--- with what the rules say of the turn, and the node stands for the notice too. The room for actions is free again.
+-- The notice is done, as the node heard it: for each history that the node stood for and that the
+-- notice continues, the controller waits with what the rules say of the turn, and the node stands
+-- for the notice too. The room for actions is free again.
 pub record IsActed (notice : Notice) (v v' : NodeParts) (ctl ctl' : ControllerState) (acts acts' : Bounded Action) : Type 0 where
   pub controller : (scenario : ScenarioParts) (past : List NoticeKind) → IsNodeOf scenario past v → IsNextOf scenario v.node past notice
       → ctl' ≡ record ctl { waiting = waiting_after (turn_effects scenario v.node (notice.kind ∷ past)) ctl.waiting }

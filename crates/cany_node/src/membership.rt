@@ -86,9 +86,9 @@ impl Membership {
         }
     }
 
-    /// What a frame of TOTCAN or a life sign tells, in a slot before `wake`: who lives. Nothing is done
-    /// for the site then. The answer is `idle_until`, before which it rests, or the new `wake` where
-    /// that is sooner.
+    /// What a frame of TOTCAN or a life sign tells, in a slot before `wake`: who lives. Nothing is
+    /// done for the site then. The answer is `idle_until`, before which it rests, or the new `wake`
+    /// where that is sooner.
     pub(crate) fn see(&mut self, notice: &Notice, idle_until: Slot) -> Slot
         requires hears { CanHear self.old notice.now }
         requires brings { brings_totcan_or_life notice.now.kind ≡ true }

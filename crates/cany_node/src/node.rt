@@ -280,9 +280,9 @@ impl Node {
         self.read = notice.slot + 1;
     }
 
-    /// Does what TOTCAN does at a frame of its own or at a life sign, and what is done for the site,
-    /// in a slot for which nothing is due. The script says nothing then, and the backlog asks for
-    /// nothing: what is read can only move the place of its last message, for which it waits.
+    /// Does what TOTCAN does at a frame of its own or at a life sign, and what is done for the
+    /// site, in a slot for which nothing is due. The script says nothing then, and the backlog asks
+    /// for nothing: what is read can only move the place of its last message, for which it waits.
     // Out of line, as `follow_rules`.
     #[inline(never)]
     fn follow_totcan_and_life(&mut self, notice: &Notice, ctl: &mut Controller, out: &mut Actions)
@@ -501,7 +501,8 @@ fn forget_idle(idle_until: &mut Slot)
 }
 
 /// Does what TOTCAN does at a notice in a slot for which it has nothing due. A life sign is nothing
-/// to it. The answer is `idle_until`, before which it rests, or its new `wake` where that is sooner.
+/// to it. The answer is `idle_until`, before which it rests, or its new `wake` where that is
+/// sooner.
 fn follow_totcan(totcan: &mut Totcan, notice: &Notice, idle_until: Slot, out: &mut Actions) -> Slot
     requires reads { CanRead totcan.old notice.now }
     requires rests { TotcanRestsUntil idle_until totcan.old }

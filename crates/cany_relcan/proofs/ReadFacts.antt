@@ -94,7 +94,8 @@ same_room false slot f timers = refl
 
 -- ---- which copy is the first
 
--- a copy is the first that delivers the message, and none before did, where the node does not know the frame as its own
+-- a copy is the first that delivers the message, and none before did, where the node does not know
+-- the frame as its own
 first_is : (got own noted first : Bool) → first ≡ not got → (own ≡ false → noted ≡ false) → (first && not (own && (got || noted))) ≡ not (got || noted)
 first_is true own noted first counted none = ap (λ b. b && not (own && true)) counted
 first_is false true noted first counted none = ap (λ b. b && not noted) counted

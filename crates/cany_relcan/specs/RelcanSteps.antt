@@ -17,13 +17,15 @@ was_delivered v f = is_held v.copies (frame_number f)
 abbrev pub holds_own : RelcanParts → FrameParts → Bool
 holds_own v f = f.node == v.node && was_delivered v f
 
--- whether the timer of a message runs and its confirmation was not read: a copy was read, and the node did not fall back
+-- whether the timer of a message runs and its confirmation was not read: a copy was read, and the
+-- node did not fall back
 abbrev pub is_awaited : RelcanParts → MsgKey → Bool
 is_awaited v msg =
     let number = message_number msg.seq msg.origin in
     not (nat_lt 0 (copies_of v.confirms number)) && (not (msg.origin == v.node) && (nat_lt 0 (copies_of v.copies number) && not (is_held v.fallen number)))
 
--- whether a copy of a data frame starts a timer: it is the first, and the message is of another node
+-- whether a copy of a data frame starts a timer: it is the first, and the message is of another
+-- node
 abbrev pub starts_timer : RelcanParts → FrameParts → Bool
 starts_timer v f = not (was_delivered v f) && not (f.node == v.node)
 
@@ -49,8 +51,8 @@ without_due slot v = record v {
   };
 }
 
--- whether the node falls back for the message of this number, with the frame of the timer that runs out: it is that frame's,
--- and its confirmation was not read
+-- whether the node falls back for the message of this number, with the frame of the timer that runs
+-- out: it is that frame's, and its confirmation was not read
 abbrev pub falls : Option FrameParts → EagerParts → ℕ → Bool
 falls None confirms number = false
 falls (Some f) confirms number = number == frame_number f && not (is_confirmed confirms f)

@@ -1,4 +1,5 @@
--- The scenario of a storm: its sends and its faults are drawn from the 32-bit words of a generator that the number starts.
+-- The scenario of a storm: its sends and its faults are drawn from the 32-bit words of a generator
+-- that the number starts.
 use Rattle.std.specs.Prelude.{ℕ, zero, suc, ◌+◌, ◌*◌, ◌%◌, ◌==◌, List, [], ◌∷◌, ◌++◌, None, if◌then◌else◌, slice_index_or}
 use Rattle.cany_base.specs.declared.format.Format.TheVariants.{One}
 use Rattle.cany_base.specs.declared.message.SendAsk.{SendAsk}

@@ -56,7 +56,8 @@ table_removes_nothing : text_of (send Tot 0 0 (2 ∷ 255 ∷ []) ∷ []) ≡ con
 unfolding text_of send
 table_removes_nothing = refl
 
--- the message of node 1 comes before that of node 0 in the order, and a message of another service changes no table
+-- the message of node 1 comes before that of node 0 in the order, and a message of another service
+-- changes no table
 table_order_decides : text_of (
     send Tot 0 1 (1 ∷ 10 ∷ 17 ∷ []) ∷ send Tot 1 0 (1 ∷ 10 ∷ 34 ∷ []) ∷ send Ed 0 2 (1 ∷ 10 ∷ 51 ∷ []) ∷ []) ≡ concat (
     codes "canely replica 1\n"

@@ -8,8 +8,9 @@ use Rattle.cany_replica.specs.declared.answer.Answer.{Answer}
 use Rattle.cany_replica.specs.Fold.{replies_of, table_of}
 use Rattle.cany_replica.specs.ReplicaText.{applied}
 
--- The table of a correct node, and its replies, are those of the first messages, as many as it applied, of the one order of
--- TOTCAN: of the order from the slot on since which the node takes part.
+-- The table of a correct node, and its replies, are those of the first messages, as many as it
+-- applied, of the one order of TOTCAN: of the order from the slot on since which the node takes
+-- part.
 pub record FollowsTable (scenario : ScenarioParts) (s : RunState) (i from : ℕ) : Type 0 where
   pub few : length (applied scenario s i) ≤ length (order scenario s from)
   pub table : table_of (applied scenario s i) ≡ table_of (take (length (applied scenario s i)) (order scenario s from))

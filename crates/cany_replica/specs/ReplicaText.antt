@@ -1,5 +1,5 @@
--- The text of the command: for each node the replies to the messages that its present incarnation delivered by TOTCAN, and its
--- table.
+-- The text of the command: for each node the replies to the messages that its present incarnation
+-- delivered by TOTCAN, and its table.
 use Rattle.std.specs.Prelude.{ℕ, ◌==◌, if◌then◌else◌, List, [], ◌∷◌, ◌++◌, length, map, Option, Some, None, codes, decimal}
 use Rattle.std.specs.List.{concat, flat_map, range_with_len}
 use Rattle.std.specs.Option.{option_map_or}

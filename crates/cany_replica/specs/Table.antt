@@ -1,4 +1,5 @@
--- A table from keys of one byte to values of a few bytes, what the payload of a message asks of it, and the reply.
+-- A table from keys of one byte to values of a few bytes, what the payload of a message asks of it,
+-- and the reply.
 use Rattle.std.specs.Prelude.{ℕ, ◌==◌, ◌&&◌, Bool, false, if◌then◌else◌, List, [], ◌∷◌, length, replicate, slice_index, slice_index_or, slice_set, Option, Some, None, is_some}
 use Rattle.std.specs.Str.{bytes_eq}
 use Rattle.cany_replica.specs.declared.change.Change.{Change}
@@ -20,8 +21,9 @@ value_at table key = slice_index_or table key None
 abbrev pub with_value : TableParts → ℕ → Option (List ℕ) → TableParts
 with_value table key value = slice_set table key value
 
--- What a payload asks for: `01` and a key and any bytes, that the key has these bytes; `02` and a key, that it has no value; `03`,
--- a key and two bytes, that the key has the second one where it has exactly the first. Any other payload asks for nothing.
+-- What a payload asks for: `01` and a key and any bytes, that the key has these bytes; `02` and a
+-- key, that it has no value; `03`, a key and two bytes, that the key has the second one where it
+-- has exactly the first. Any other payload asks for nothing.
 unfoldable pub change_of : List ℕ → Change
 change_of [] = Nothing
 change_of (code ∷ []) = Nothing

@@ -16,7 +16,8 @@ replica_command = one_word (codes "replica") replica_text
 
 -- what success says of the scenario and of what the sink had taken before and has taken now
 pub record IsReplica (scenario : ScenarioParts) (old new : Option (List ℕ)) : Type 0 where
-  -- the replies and the tables of the nodes were written: of each those that its messages make, as it delivered them by TOTCAN
+  -- the replies and the tables of the nodes were written: of each those that its messages make, as
+  -- it delivered them by TOTCAN
   pub written : Takes old (replica_text scenario (journal_of scenario)) new
   pub promises : KeepsPromises scenario
   -- within the fault hypothesis the nodes have one table

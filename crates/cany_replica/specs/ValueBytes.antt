@@ -20,8 +20,8 @@ six_of bytes = slice_index bytes 0 ∷ slice_index bytes 1 ∷ slice_index bytes
 abbrev pub padded : List ℕ → Inside
 padded bytes = record { len = length bytes; bytes = six_of bytes }
 
--- The bytes give the value back. This lemma stands here and not in `proofs/`, since the type's clause `inverse_ok` cites it and
--- a clause of the code sees `specs/` alone.
+-- The bytes give the value back. This lemma stands here and not in `proofs/`, since the type's
+-- clause `inverse_ok` cites it and a clause of the code sees `specs/` alone.
 
 six_of-index : (bytes : List ℕ) (i : ℕ) → i < 6 → slice_index (six_of bytes) i ≡ slice_index bytes i
 six_of-index bytes zero h = refl

@@ -1,5 +1,5 @@
--- What a node does for its backlog in a turn, after a past, newest first. The next message is asked for 4 slots after the place of
--- the one before: bound is 3 and lag is 1.
+-- What a node does for its backlog in a turn, after a past, newest first. The next message is asked
+-- for 4 slots after the place of the one before: bound is 3 and lag is 1.
 use Rattle.std.specs.Prelude.{ℕ, ◌≡◌, ◌++◌, List, [], ◌∷◌, map, replicate, refl}
 use Rattle.cany_base.specs.declared.message.SendAsk.{SendAsk}
 use Rattle.cany_base.specs.declared.notice.NoticeKind.{NoticeKind}
@@ -92,7 +92,8 @@ asked_for_so_far :
 unfolding backlog_row two
 asked_for_so_far = refl
 
--- one that is scripted while the node waits is asked for in slot 5 too, and one of a later slot in that slot
+-- one that is scripted while the node waits is asked for in slot 5 too, and one of a later slot in
+-- that slot
 scripted_while_it_waits :
     map (effects (send_tot 0 0 (1 ∷ []) ∷ send_tot 3 0 (2 ∷ []) ∷ []))
     (map after_first (2 ∷ 3 ∷ 4 ∷ []))

@@ -1,5 +1,6 @@
--- Worked rows of nodes that ask to join: runs in which they are admitted, in the cycle that is promised or in the one before, and one in
--- which the ask does not get through. What a run comes to is computed in rows of its own.
+-- Worked rows of nodes that ask to join: runs in which they are admitted, in the cycle that is
+-- promised or in the one before, and one in which the ask does not get through. What a run comes to
+-- is computed in rows of its own.
 use Rattle.std.specs.Prelude.{ℕ, ◌+◌, ◌-◌, ◌*◌, ◌<◌, ◌≤◌, ◌≡◌, ◌⊎◌, Bool, true, false, [], ◌∷◌, Option, Some, Contains, map, replicate, refl}
 use Rattle.std.proofs.Common.{ap, arith, inl, inr, lit<, lit≤, ◌∙◌, sym}
 use Rattle.std.proofs.lemmas.Bool.{false≢true}
@@ -121,7 +122,8 @@ stands_not_before_the_end stands = false≢true (stands.member 0 (record { there
 
 -- ---- by the start of a cycle, or after it
 
--- An ask that is carried in the slot of the start counts in this cycle, and one that is carried later in the next.
+-- An ask that is carried in the slot of the start counts in this cycle, and one that is carried
+-- later in the next.
 abbrev joins_at : ℕ → ScenarioParts
 joins_at slot = two 96 1 [] (asks_at slot 1 ∷ []) []
 
@@ -147,8 +149,9 @@ vectors_by_the_slot_of_the_join = refl
 
 -- ---- a node that was admitted in the cycle before
 
--- Node 1 asks twice to join: its first ask counts in cycle 1, and its second, carried while the vectors of this are exchanged, in cycle 2.
--- It asks to leave in slot 60, when it is a member. So it stands in the vector of cycle 1, and not in that of cycle 2.
+-- Node 1 asks twice to join: its first ask counts in cycle 1, and its second, carried while the
+-- vectors of this are exchanged, in cycle 2. It asks to leave in slot 60, when it is a member. So
+-- it stands in the vector of cycle 1, and not in that of cycle 2.
 abbrev joins_and_leaves : ScenarioParts
 joins_and_leaves = two 96 1 [] (asks_at 10 1 ∷ asks_at 44 1 ∷ []) (asks_at 60 1 ∷ [])
 

@@ -1,6 +1,6 @@
--- Worked rows of the failure detector, and of members that stop, stay or leave: runs in which what is promised holds, and runs that lack a
--- premise of it, and in which it does not. What a run comes to is computed in rows of its own: what is promised for every node then
--- follows without it.
+-- Worked rows of the failure detector, and of members that stop, stay or leave: runs in which what
+-- is promised holds, and runs that lack a premise of it, and in which it does not. What a run comes
+-- to is computed in rows of its own: what is promised for every node then follows without it.
 use Rattle.std.specs.Prelude.{ℕ, ◌+◌, ◌*◌, ◌<◌, ◌≡◌, ◌≢◌, Bool, true, false, List, [], ◌∷◌, Option, Some, None, is_none, Err, All, Contains, refl}
 use Rattle.std.specs.List.{AllByRecursion}
 use Rattle.std.proofs.Common.{ap, arith, ◌∙◌, lit<, lit≤, subst, sym}
@@ -51,12 +51,14 @@ stopped_is_legal = two_is_legal 96 3 (slot_rule 1 Clean 2 ∷ []) [] [] (lit≤ 
   few_leaves = lit≤ tt;
 })
 
--- Node 0 finds out in the first cycle, after it has started. So node 1 stands in the view of this cycle, and not in that of the next.
+-- Node 0 finds out in the first cycle, after it has started. So node 1 stands in the view of this
+-- cycle, and not in that of the next.
 abbrev stopped_entries : List LogEntry
 stopped_entries = Failed 39 1 1 ∷ View 57 1 (set 3) ∷ View 95 2 (set 1) ∷ []
 
--- What is seen of the run, which is computed here once: where it leaves the hypothesis, how many slots ran, when node 1 stopped, and of node 0 the log, the view
--- after the turn of slot 1, who has failed, and whether it has asked to leave.
+-- What is seen of the run, which is computed here once: where it leaves the hypothesis, how many
+-- slots ran, when node 1 stopped, and of node 0 the log, the view after the turn of slot 1, who has
+-- failed, and whether it has asked to leave.
 record SeenOfTheStop : Type 0 where
   broken : Option Break
   slots : ℕ
@@ -115,8 +117,8 @@ it_stops_as_a_member : StandsAfter node_1_stops stopped_run 1 1
 it_stops_as_a_member =
     stands_after node_1_stops stopped_run 1 1 refl members_after_the_stop.0 (λ correct. members_after_the_stop.2) it_runs_no_more
 
--- A view of a cycle that starts more than the silence of 39 slots after slot 1 has not node 1: the first cycle starts too early, and the
--- view of the second has it not.
+-- A view of a cycle that starts more than the silence of 39 slots after slot 1 has not node 1: the
+-- first cycle starts too early, and the view of the second has it not.
 abbrev HasNotNode1 : ℕ → Nodes → Type 0
 HasNotNode1 number members = 1 + node_1_stops.params.silence < number * node_1_stops.params.cycle → has members 1 ≡ false
 
@@ -185,7 +187,8 @@ node_0_has_not_failed =
 
 -- ---- a silence that is too short
 
--- A silence of one slot more than the life: the life signs of three nodes are due in one slot, so that two of them come too late.
+-- A silence of one slot more than the life: the life signs of three nodes are due in one slot, so
+-- that two of them come too late.
 unfoldable hasty : ScenarioParts
 hasty = of_members 7 (scenario (record (three 39 1 2) { silence = 37 }) [] [])
 
@@ -205,8 +208,9 @@ accuracy_needs_the_silence says = false≢true (sym (says 0 (record { there = li
 
 -- ---- a node that stops as a joiner
 
--- Node 1 asks to join, and stops in the slot after that which carries its ask. So cycle 1 admits it, and it counts as alive from the end
--- of this on: it stands in the view of cycle 2, which starts in slot 76, more than the silence of 39 slots after slot 36.
+-- Node 1 asks to join, and stops in the slot after that which carries its ask. So cycle 1 admits
+-- it, and it counts as alive from the end of this on: it stands in the view of cycle 2, which
+-- starts in slot 76, more than the silence of 39 slots after slot 36.
 abbrev joiner_stops : ScenarioParts
 joiner_stops = two 96 1 (slot_rule 36 Clean 2 ∷ []) (asks_at 34 1 ∷ []) []
 
@@ -244,7 +248,8 @@ removal_needs_a_member removed =
 
 -- ---- a member that leaves
 
--- Node 1 asks in slot 10 to leave, and runs on. It stands in the view until the end of cycle 1 in slot 57, and not in that of this cycle.
+-- Node 1 asks in slot 10 to leave, and runs on. It stands in the view until the end of cycle 1 in
+-- slot 57, and not in that of this cycle.
 abbrev node_1_leaves : ScenarioParts
 node_1_leaves = two 58 3 [] [] (asks_at 10 1 ∷ [])
 
@@ -300,7 +305,8 @@ scripted_leave : (sc : ScenarioParts) (slot r : ℕ) → Contains sc.leaves (ask
 unfolding detector_row
 scripted_leave sc slot r stands none = All-contains (λ (ask : NodeAsk). ask.node ≢ r) sc.leaves (asks_at slot r) none stands refl
 
--- Node 1 is no member at slot 0, so its leave of this slot does nothing. It asks in slot 5 to join, and stands in both views.
+-- Node 1 is no member at slot 0, so its leave of this slot does nothing. It asks in slot 5 to join,
+-- and stands in both views.
 abbrev leaves_as_no_member : ScenarioParts
 leaves_as_no_member = two 96 1 [] (asks_at 5 1 ∷ []) (asks_at 0 1 ∷ [])
 
@@ -323,7 +329,8 @@ its_leave_is_scripted : HasNoScriptedLeave leaves_as_no_member 1 → ⊥
 unfolding detector_row
 its_leave_is_scripted = scripted_leave leaves_as_no_member 0 1 (0, lit< tt, refl)
 
--- Node 1 is to leave in slot 60. After the first 58 slots it has not asked, and stands in the view of the first cycle; after all it has.
+-- Node 1 is to leave in slot 60. After the first 58 slots it has not asked, and stands in the view
+-- of the first cycle; after all it has.
 abbrev leaves_later : ScenarioParts
 leaves_later = two 96 3 [] [] (asks_at 60 1 ∷ [])
 

@@ -1,4 +1,5 @@
--- What the worked rows of the failure detector and of the membership are written with: runs of two nodes, and what logs and vectors say.
+-- What the worked rows of the failure detector and of the membership are written with: runs of two
+-- nodes, and what logs and vectors say.
 use Rattle.std.specs.Prelude.{ℕ, suc, zero, true, ◌+◌, ◌<◌, ◌≤◌, ◌≡◌, List, [], Option, Some, None, Contains, length}
 use Rattle.std.specs.List.{AllByRecursion}
 use Rattle.std.proofs.Common.{arith, ◌∙◌, lit≤, subst, sym}
@@ -24,8 +25,9 @@ use Rattle.cany_rows.proofs.SiteWords.{site_row}
 
 -- ---- runs of two nodes
 
--- Two nodes, of which these are members, with these rules and asks to join and to leave. The other parameters are the least that the
--- formulas allow: a cycle has 38 slots and ends in its slot 19, a member shows life after 19 slots, and has failed after 39 without.
+-- Two nodes, of which these are members, with these rules and asks to join and to leave. The other
+-- parameters are the least that the formulas allow: a cycle has 38 slots and ends in its slot 19, a
+-- member shows life after 19 slots, and has failed after 39 without.
 abbrev pub two : ℕ → ℕ → List Rule → List NodeAsk → List NodeAsk → ScenarioParts
 two slots members rules joins leaves = record {
   params = default_parameters 2 slots;
@@ -99,7 +101,8 @@ pub each_correct : (sc : ScenarioParts) (s : RunState) (P : ℕ → Type 0) → 
 each_correct sc s P nodes zeroth first i correct =
     for_two (λ j. IsCorrect sc s j → P j) zeroth first i (subst (λ n. i < n) nodes correct.there) correct
 
--- a node stands in the view after the turn of a slot, where each of the two that is correct has it in its own before the next
+-- a node stands in the view after the turn of a slot, where each of the two that is correct has it
+-- in its own before the next
 pub stands_after : (sc : ScenarioParts) (s : RunState) (r slot : ℕ) → sc.params.nodes ≡ 2 → slot < slots_run s
     → (IsCorrect sc s 0 → has (members_before sc s (slot + 1) 0) r ≡ true) → (IsCorrect sc s 1 → has (members_before sc s (slot + 1) 1) r ≡ true)
     → StandsAfter sc s r slot

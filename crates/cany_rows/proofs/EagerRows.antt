@@ -31,8 +31,8 @@ omit_comes_before_errors :
 unfolding row
 omit_comes_before_errors = refl
 
--- What the rules say of a past, newest first. In a run an origin reads no copy before its own transmission: while its frame
--- waits it is a sender of each slot that carries it.
+-- What the rules say of a past, newest first. In a run an origin reads no copy before its own
+-- transmission: while its frame waits it is a sender of each slot that carries it.
 unfoldable effects : ℕ → ℕ → List NoticeKind → List Effect
 unfolding edcan_effects edcan_at delivery_effects eager_effects copies has_own same_class same_identity
 effects omit i past = edcan_effects (scenario (three 9 omit 2) [] []) i past
@@ -88,7 +88,8 @@ another_message_counts_apart = refl
 
 -- Lag.
 
--- Two Partial copies reach node 1 before it reads either: with omit 1 it asks and withdraws, and node 2 never gets the one_message.
+-- Two Partial copies reach node 1 before it reads either: with omit 1 it asks and withdraws, and
+-- node 2 never gets the one_message.
 unfoldable twice_partial : ℕ → ScenarioParts
 twice_partial omit = scenario (lag_1 5 omit) one_message (slot_rule 1 (Partial (set 4)) 0 ∷ slot_rule 2 (Partial (set 4)) 1 ∷ [])
 

@@ -1,4 +1,5 @@
--- Worked rows of the order of the faults in a text: of two, the one that the order names first is told.
+-- Worked rows of the order of the faults in a text: of two, the one that the order names first is
+-- told.
 use Rattle.std.specs.Prelude.{◌≡◌, ℕ, pos, List, [], ◌∷◌, replicate, Some, refl, codes}
 use Rattle.toml.specs.Data.{string, integer, table, Members, no_members, member}
 use Rattle.cany_base.specs.declared.params.ParamName.TheVariants.{Bound, Cycle}
@@ -148,7 +149,8 @@ too_many_and_an_entry_of_another_kind :
 unfolding text_row
 too_many_and_an_entry_of_another_kind = refl
 
--- the entries in their order: all that is wrong with one comes before all that is wrong with the next
+-- the entries in their order: all that is wrong with one comes before all that is wrong with the
+-- next
 an_entry_of_another_kind_and_an_unknown_key :
     fault_in (five_slots (values (codes "send") (integer (pos 0) ∷ table (number (codes "speed") 1 no_members) ∷ []) no_members))
     ≡ Some (WrongKind in_table.Send 0 key.Send)

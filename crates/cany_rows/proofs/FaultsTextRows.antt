@@ -20,7 +20,8 @@ use Rattle.cany_text.specs.TomlKeys.{Read}
 use Rattle.cany_rows.proofs.RowWords.{three, slot_rule, frame_rule, set}
 use Rattle.cany_rows.proofs.TextWords.{number, text, numbers, values, attempt}
 
--- the rules that values stand for, in a run of these parameters; what computes them is opened here, once for all rows
+-- the rules that values stand for, in a run of these parameters; what computes them is opened here,
+-- once for all rows
 unfoldable rules_by : Parameters → List Data → Read (List Rule)
 unfolding key_name class_name verdict_name bits_where those_where nodes_from verdict_from class_from slot_place_from frame_place_from place_from rule_from rules_of
 rules_by params these = rules_of params (top_table (values (codes "fault") these no_members))

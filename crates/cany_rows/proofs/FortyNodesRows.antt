@@ -9,7 +9,8 @@ use Rattle.cany_model.proofs.RowWords.{scenario_of}
 use Rattle.cany_rows.proofs.ReportRows.{text_of}
 use Rattle.cany_rows.proofs.RowWords.{send}
 
--- two slots of forty nodes, which are all members, and one EDCAN message of the last node, without data
+-- two slots of forty nodes, which are all members, and one EDCAN message of the last node, without
+-- data
 unfoldable forty : ScenarioParts
 unfolding send scenario_of
 forty = scenario_of (default_parameters_of Two 40 2) 1099511627775 (send 0 39 [] ∷ []) [] []

@@ -62,7 +62,8 @@ lost_is_no_omission : broken_by ((first_frame, Clean) ∷ (first_frame, Lost) �
 unfolding trace_row
 lost_is_no_omission = refl
 
--- the vectors of one cycle count together, of whichever node; those of two cycles do not, nor do the life signs of two nodes
+-- the vectors of one cycle count together, of whichever node; those of two cycles do not, nor do
+-- the life signs of two nodes
 vectors_of_one_cycle : broken_by ((rha 1 1, Partial (set 1)) ∷ (rha 1 0, Partial (set 2)) ∷ []) ≡ Some (record { kind = kind.Omit; slot = 1 })
 unfolding trace_row
 vectors_of_one_cycle = refl

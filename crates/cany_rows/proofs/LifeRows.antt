@@ -1,4 +1,5 @@
--- Worked rows of life signs and failure signs: whole runs, and single turns after a past, newest first.
+-- Worked rows of life signs and failure signs: whole runs, and single turns after a past, newest
+-- first.
 use Rattle.std.specs.Prelude.{ℕ, ◌≡◌, ◌≤◌, ◌++◌, ◌&&◌, true, false, List, [], ◌∷◌, Some, None, map, replicate, codes, refl}
 use Rattle.std.specs.List.{concat}
 use Rattle.std.proofs.Common.{arith, lit<, lit≤}
@@ -75,7 +76,8 @@ life_run = tt
 
 -- ---- runs
 
--- Node 1 stops in slot 5. The others show life in every 37th slot, and find out in slot 73, before any membership cycle starts.
+-- Node 1 stops in slot 5. The others show life in every 37th slot, and find out in slot 73, before
+-- any membership cycle starts.
 unfoldable node_1_stops : ScenarioParts
 node_1_stops = of_members 7 (scenario (record (three 100 1 2) { cycle = 200 }) [] (slot_rule 5 Clean 2 ∷ []))
 
@@ -146,8 +148,9 @@ totcan_accept_under_lag = refl
 
 -- ---- runs with short intervals, before any cycle starts
 
--- Node 1 is the only member, and stops in slot 0. At lag 1 node 2 finds it in slot 6 and sends the sign. Node 0 finds it too before it
--- reads this copy, so its own sign goes out, and it does not ask again at the copy, though it has not yet read that it has sent it.
+-- Node 1 is the only member, and stops in slot 0. At lag 1 node 2 finds it in slot 6 and sends the
+-- sign. Node 0 finds it too before it reads this copy, so its own sign goes out, and it does not
+-- ask again at the copy, though it has not yet read that it has sent it.
 unfoldable silence_at_lag_1 : ScenarioParts
 silence_at_lag_1 = of_members 2 (scenario (record (soon 1) { lag = 1; cycle = 100; slots = 11 }) [] (slot_rule 0 Clean 2 ∷ []))
 
@@ -161,7 +164,8 @@ found_twice_and_asked_once : report silence_at_lag_1 (steps one_reads_late) ≡ 
 unfolding life_run silence_at_lag_1 one_reads_late
 found_twice_and_asked_once = refl
 
--- Node 0 does not get the life sign of node 1, and accuses it. All know the sign then, node 1 too, which goes on to show life.
+-- Node 0 does not get the life sign of node 1, and accuses it. All know the sign then, node 1 too,
+-- which goes on to show life.
 unfoldable accused : ℕ → ScenarioParts
 accused omit = of_members 2 (scenario (record (soon omit) { cycle = 100; slots = 12 }) [] (slot_rule 5 (Silent (set 1)) 0 ∷ []))
 
@@ -173,7 +177,8 @@ accused_by_mistake : report_of (accused 1) ≡ broken_run kind.Silent 5 (steps (
 unfolding life_run accused
 accused_by_mistake = refl
 
--- where one copy is enough the sign that silence brought is sent all the same, and nobody sends it after that
+-- where one copy is enough the sign that silence brought is sent all the same, and nobody sends it
+-- after that
 accused_without_omissions :
     (report_of (accused 0)).bus
     ≡ carries 5 (els 1 0) 2 4 (Silent (set 1)) 0 ∷ carries 7 (fda 1 0) 1 6 Clean 0 ∷ carries 10 (els 1 1) 2 5 Clean 0 ∷ []
@@ -182,7 +187,8 @@ accused_without_omissions = refl
 
 -- ---- nodes that start again
 
--- Node 0 stops in slot 5, and starts again at the end of slot 10. It is no member, so it asks for no life sign. It hears the others.
+-- Node 0 stops in slot 5, and starts again at the end of slot 10. It is no member, so it asks for
+-- no life sign. It hears the others.
 unfoldable stopped_and_back : ScenarioParts
 stopped_and_back =
     with_restart 10 0 (of_members 7 (scenario (three 60 1 2) (send 50 1 (1 ∷ []) ∷ []) (slot_rule 5 Clean 1 ∷ [])))
@@ -195,11 +201,13 @@ restart_hears_again_with_life_signs : report_of stopped_and_back ≡ whole_run (
 unfolding life_run stopped_and_back
 restart_hears_again_with_life_signs = refl
 
--- Nodes 0 and 1 stop in slot 0, and node 0 starts again at the end of this slot or of slot 6: it takes part from slot 3 or 9 on.
+-- Nodes 0 and 1 stop in slot 0, and node 0 starts again at the end of this slot or of slot 6: it
+-- takes part from slot 3 or 9 on.
 unfoldable two_stop : ℕ → ScenarioParts
 two_stop slot = with_restart slot 0 (of_members 7 (scenario (record (soon 1) { bound = 2; cycle = 100; slots = 13 }) [] (slot_rule 0 Clean 3 ∷ [])))
 
--- it learns both signs, one of which accuses its own number, and relays them: the life signs of node 2 win over these
+-- it learns both signs, one of which accuses its own number, and relays them: the life signs of
+-- node 2 win over these
 signs_reach_a_restarted_node : report_of (two_stop 0) ≡ whole_run (steps (codes ".2" ++ rounds_of 12 (codes ".02")))
     (idle 0 3 ∷ carries 5 (els 2 0) 4 1 Clean 0 ∷ carries 7 (fda 0 0) 4 1 Clean 0 ∷ carries 8 (fda 0 0) 1 4 Clean 0
     ∷ carries 9 (fda 1 0) 4 1 Clean 0 ∷ carries 10 (els 2 1) 4 1 Clean 0 ∷ carries 11 (fda 1 0) 1 4 Clean 0 ∷ [])
@@ -215,9 +223,10 @@ signs_before_it_takes_part :
 unfolding life_run two_stop
 signs_before_it_takes_part = refl
 
--- An independent simulator computed this run, at lag 1: node 0 stops in slot 32 and starts again at the end of slot 37. The others find in
--- slot 149 that it failed, though it hears again since slot 112, and it learns of it. Its asks to join and to leave, which no rule reads
--- yet, and fault rules for frames that are never carried are left out.
+-- An independent simulator computed this run, at lag 1: node 0 stops in slot 32 and starts again at
+-- the end of slot 37. The others find in slot 149 that it failed, though it hears again since slot
+-- 112, and it learns of it. Its asks to join and to leave, which no rule reads yet, and fault rules
+-- for frames that are never carried are left out.
 unfoldable failed_before_it_started_again : ScenarioParts
 failed_before_it_started_again =
     with_restart 37 0 (of_members 7 (scenario
@@ -302,7 +311,8 @@ not_met_of_an_earlier_sign :
 unfolding life_run two_stop first_carried
 not_met_of_an_earlier_sign = (refl, refl, λ correct. nine-is-above-7 correct.took_part, refl, refl)
 
--- While one node alone knows a sign, its frame waits or a copy of it is not read: the premises ask for neither.
+-- While one node alone knows a sign, its frame waits or a copy of it is not read: the premises ask
+-- for neither.
 unfoldable one_knows : List ℕ
 one_knows = rounds_of 6 (codes ".02") ++ codes ".2"
 
@@ -383,7 +393,8 @@ own_message_shows_life :
 unfolding life_turn
 own_message_shows_life = refl
 
--- what was got of another node, or of its own in an earlier life, and a slot that was bad, change nothing
+-- what was got of another node, or of its own in an earlier life, and a slot that was bad, change
+-- nothing
 got_life_is_not_its_own : map (λ e. asks 7 (idle_slots 2 ++ e ∷ idle_slots 2)) (Got (els 1 0) ∷ Got (els 0 3) ∷ Sent (tot 1 0 []) ∷ Bad ∷ [])
     ≡ (Ask (els 0 0) ∷ []) ∷ (Ask (els 0 0) ∷ []) ∷ (Ask (els 0 0) ∷ []) ∷ (Ask (els 0 0) ∷ []) ∷ []
 unfolding life_turn
@@ -393,7 +404,8 @@ no_member_shows_no_life : asks 6 (idle_slots 5) ≡ []
 unfolding life_turn
 no_member_shows_no_life = refl
 
--- in the slot in which it is due the node reads that it has shown life by another frame: it is due again 4 slots later
+-- in the slot in which it is due the node reads that it has shown life by another frame: it is due
+-- again 4 slots later
 shown_as_it_is_due : map (λ slots. asks 7 (idle_slots slots ++ Sent first_tot ∷ idle_slots 4)) (0 ∷ 3 ∷ 4 ∷ []) ≡ [] ∷ [] ∷ (Ask (els 0 0) ∷ []) ∷ []
 unfolding life_turn
 shown_as_it_is_due = refl
@@ -411,7 +423,8 @@ numbers_count_own_signs :
 unfolding life_turn
 numbers_count_own_signs = refl
 
--- The one that was asked for in slot 4 still waits when the message is sent in slot 5: in slot 9 it is asked for again, under its number.
+-- The one that was asked for in slot 4 still waits when the message is sent in slot 5: in slot 9 it
+-- is asked for again, under its number.
 asked_twice_under_one_number : map (asks 7) (idle_slots 5 ∷ (idle_slots 4 ++ Sent first_tot ∷ idle_slots 5) ∷ []) ≡ replicate 2 (Ask (els 0 0) ∷ [])
 unfolding life_turn
 asked_twice_under_one_number = refl
@@ -448,8 +461,8 @@ no_life_shown = refl
 
 -- ---- a node that is admitted
 
--- It has not failed then, and shows life; of the node itself it is the last life too. What is known stays known, and the members are
--- not changed yet.
+-- It has not failed then, and shows life; of the node itself it is the last life too. What is known
+-- stays known, and the members are not changed yet.
 admitted_node_lives :
     map (λ newly. known (after_admitting 0 9 (set newly) before_admission)) (2 ∷ 3 ∷ 0 ∷ [])
     ≡ record { members = set 5; failed = set 4; signs = sign 2 1 ∷ sign 1 1 ∷ []; lives = 3 ∷ 0 ∷ 9 ∷ 2 ∷ [] }
@@ -458,8 +471,8 @@ admitted_node_lives :
 unfolding life_turn
 admitted_node_lives = refl
 
--- A sign that is known has no effect again in its cycle, neither by silence nor by a copy, though the node has not failed any more. One of the
--- next cycle has: it begins in slot 15.
+-- A sign that is known has no effect again in its cycle, neither by silence nor by a copy, though
+-- the node has not failed any more. One of the next cycle has: it begins in slot 15.
 known_sign_has_no_effect_again :
     map (λ slot. found_by_silence (record (soon 1) { cycle = 15 }) 0 slot after_failure) (12 ∷ 13 ∷ 14 ∷ 15 ∷ [])
     ≡ [] ∷ [] ∷ [] ∷ (sign 1 1 ∷ []) ∷ []
@@ -508,7 +521,8 @@ failed_once : map (λ slots. signs 1 2 (idle_slots slots)) (9 ∷ 11 ∷ 17 ∷ 
 unfolding life_turn
 failed_once = refl
 
--- of two that failed in one slot, and of two that failed one after the other, neither is found again
+-- of two that failed in one slot, and of two that failed one after the other, neither is found
+-- again
 both_failed_once :
     map (λ slots. signs 1 7 (idle_slots slots)) (9 ∷ 11 ∷ 17 ∷ [])
     ++ map (λ slots. signs 1 7 (idle_slots slots ++ Got (els 1 0) ∷ idle_slots 3)) (7 ∷ 13 ∷ [])
@@ -549,7 +563,8 @@ each_sign_stays_known :
 unfolding life_turn
 each_sign_stays_known = refl
 
--- only failure signs tell of one, and are withdrawn: at a first copy of each class, and at a second one
+-- only failure signs tell of one, and are withdrawn: at a first copy of each class, and at a second
+-- one
 signs_by_class :
     map (λ past. map (λ c. signs 1 0 (map (λ node. Got (named c node)) past)) classes) ((1 ∷ []) ∷ (1 ∷ 1 ∷ []) ∷ [])
     ≡ ([] ∷ [] ∷ [] ∷ found 0 1 0 ∷ [] ∷ [] ∷ [] ∷ [] ∷ [] ∷ [] ∷ [])
@@ -562,7 +577,8 @@ one_copy_is_enough : signs 0 7 (Got (fda 2 3) ∷ []) ≡ Enter (Failed 0 2 3) �
 unfolding life_turn
 one_copy_is_enough = refl
 
--- a sign that silence brought is not asked for again at its first copy, and one that a copy brought is not found
+-- a sign that silence brought is not asked for again at its first copy, and one that a copy brought
+-- is not found
 known_by_silence : signs 1 2 (Got (fda 1 0) ∷ idle_slots 7) ∷ signs 0 2 (idle_slots 7) ∷ [] ≡ [] ∷ found 6 1 0 ∷ []
 unfolding life_turn
 known_by_silence = refl
@@ -576,7 +592,8 @@ found_after_it_was_told : signs 1 2 (idle_slots 6 ++ Got (fda 1 0) ∷ []) ≡ [
 unfolding life_turn
 found_after_it_was_told = refl
 
--- the sign in the notice comes first: node 2 has failed then, though it was silent for long enough in this very slot
+-- the sign in the notice comes first: node 2 has failed then, though it was silent for long enough
+-- in this very slot
 notice_before_silence : signs 1 7 (Got (fda 2 3) ∷ idle_slots 6) ≡ found 6 2 3 ++ found 6 1 0
 unfolding life_turn
 notice_before_silence = refl
@@ -598,7 +615,8 @@ signs_of_two_cycles : signs 1 7 (Got (fda 2 1) ∷ Got (fda 2 0) ∷ []) ≡ fou
 unfolding life_turn
 signs_of_two_cycles = refl
 
--- a sign may name the node itself, or one that is no member; the node's own transmission tells it nothing
+-- a sign may name the node itself, or one that is no member; the node's own transmission tells it
+-- nothing
 signs_of_any_node :
     signs 1 7 (Got (fda 0 0) ∷ []) ∷ signs 1 3 (Got (fda 2 0) ∷ []) ∷ signs 1 7 (Sent (fda 2 0) ∷ []) ∷ [] ≡ found 0 0 0 ∷ found 0 2 0 ∷ [] ∷ []
 unfolding life_turn
@@ -606,16 +624,16 @@ signs_of_any_node = refl
 
 -- ---- a whole turn
 
--- The life sign comes after the failure signs, and before what is scripted. A node without members, as one that starts again, asks for
--- that alone.
+-- The life sign comes after the failure signs, and before what is scripted. A node without members,
+-- as one that starts again, asks for that alone.
 order_of_a_turn :
     map (λ members. turn_effects (of_members members (scenario (record (soon 1) { life = 6 }) (send 6 0 [] ∷ []) [])) 0 (idle_slots 7)) (7 ∷ 0 ∷ [])
     ≡ (found 6 1 0 ++ found 6 2 0 ++ Ask (els 0 0) ∷ Ask (ed 0 0 []) ∷ []) ∷ (Ask (ed 0 0 []) ∷ []) ∷ []
 unfolding life_turn
 order_of_a_turn = refl
 
--- In slot 6 node 0 gets an EDCAN message; a RELCAN timer and a TOTCAN closing are due; nodes 1 and 2 are silent; its life sign is due, and
--- two sends are scripted.
+-- In slot 6 node 0 gets an EDCAN message; a RELCAN timer and a TOTCAN closing are due; nodes 1 and
+-- 2 are silent; its life sign is due, and two sends are scripted.
 order_of_a_full_turn :
     turn_effects
     (of_members 7 (scenario (record (soon 1) { bound = 6; life = 6; confirm = 5 }) (send_tot 6 0 [] ∷ send 6 0 [] ∷ []) [])) 0
@@ -639,7 +657,8 @@ followed_by_an_incarnation :
 unfolding life_turn third all_members
 followed_by_an_incarnation = refl
 
--- So it asks for no life sign, in slot 4, and finds nobody, in slot 6. A sign that is told to it becomes known.
+-- So it asks for no life sign, in slot 4, and finds nobody, in slot 6. A sign that is told to it
+-- becomes known.
 restarted_node_hears_alone :
     map (effects_for 2 all_members third 0) (idle_slots 5 ∷ idle_slots 7 ∷ (Got (fda 2 0) ∷ idle_slots 6) ∷ []) ≡ [] ∷ [] ∷ found 6 2 0 ∷ []
 unfolding life_turn third all_members

@@ -11,8 +11,8 @@ use Rattle.cany_rows.proofs.SiteWords.{asks_at, els, fda, join, leave, of_member
 unfoldable of_lines : ℕ → RunReport → RunReport
 of_lines n r = record r { bus = take n r.bus }
 
--- Node 1 stops in slot 5. The others find out in the first cycle, after it has started, so that it stands in the view of this cycle. It
--- does not in that of the next.
+-- Node 1 stops in slot 5. The others find out in the first cycle, after it has started, so that it
+-- stands in the view of this cycle. It does not in that of the next.
 unfoldable node_1_stops : ScenarioParts
 node_1_stops = of_members 7 (scenario (three 300 1 2) [] (slot_rule 5 Clean 2 ∷ []))
 
@@ -43,7 +43,8 @@ join_after_partial :
 unfolding site_row node_2_joins
 join_after_partial = refl
 
--- It stops with that, and node 0 alone has heard its ask: the two start with different vectors, and come to the one without it.
+-- It stops with that, and node 0 alone has heard its ask: the two start with different vectors, and
+-- come to the one without it.
 join_after_partial_of_a_node_that_stops :
     report_of (node_2_joins 4) ≡ whole_run (steps (rounds_of 11 (codes ".012") ++ rounds_of 109 (codes ".01")))
     (carries 11 (join 2 0) 4 1 (Partial (set 2)) 4 ∷ carries 37 (els 0 0) 1 2 Clean 0 ∷ carries 38 (els 1 0) 2 1 Clean 0
@@ -54,8 +55,8 @@ join_after_partial_of_a_node_that_stops :
 unfolding site_row node_2_joins
 join_after_partial_of_a_node_that_stops = refl
 
--- Node 1 rejects the ask of node 2 to leave, which is carried in the slot in which the cycle starts: nodes 1 and 2 start with all nodes, node
--- 0 without node 2.
+-- Node 1 rejects the ask of node 2 to leave, which is carried in the slot in which the cycle
+-- starts: nodes 1 and 2 start with all nodes, node 0 without node 2.
 unfoldable node_2_leaves : ScenarioParts
 node_2_leaves = with_asks [] (asks_at 71 2 ∷ []) (of_members 7 (scenario (three 115 1 2) [] (slot_rule 72 (Partial (set 2)) 0 ∷ [])))
 

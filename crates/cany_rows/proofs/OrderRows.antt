@@ -63,8 +63,8 @@ order_row = tt
 
 -- ---- a stopped node, and a late one
 
--- The run of row `totcan_accept_under_lag`: the sender stops after node 3 alone took the frame that accepts the message, and node 3 reads one slot
--- behind the others.
+-- The run of row `totcan_accept_under_lag`: the sender stops after node 3 alone took the frame that
+-- accepts the message, and node 3 reads one slot behind the others.
 
 unfoldable pub late_reader : ScenarioParts
 late_reader =
@@ -73,7 +73,8 @@ late_reader =
 abbrev its_message : Content
 its_message = content 0 0 (1 ∷ [])
 
--- Nobody else has read that frame. Node 0 has delivered the message, but is stopped: what it accepted does not count.
+-- Nobody else has read that frame. Node 0 has delivered the message, but is stopped: what it
+-- accepted does not count.
 accepted_by_a_stopped_node : order_report late_reader (run late_reader (steps (codes ".012.0123.12"))) ≡ record {
   order = [];
   nodes = ([], its_message ∷ []) ∷ ([], []) ∷ ([], []) ∷ ([], []) ∷ [];
@@ -83,7 +84,8 @@ accepted_by_a_stopped_node : order_report late_reader (run late_reader (steps (c
 unfolding order_row late_reader
 accepted_by_a_stopped_node = refl
 
--- Node 3 has read it, and will send it again: the order has the message, and the others are to deliver it yet.
+-- Node 3 has read it, and will send it again: the order has the message, and the others are to
+-- deliver it yet.
 accepted_by_one_node : order_report late_reader (run late_reader (steps (codes ".012.0123.123.123"))) ≡ record {
   order = its_message ∷ [];
   nodes = (its_message ∷ [], its_message ∷ []) ∷ (its_message ∷ [], []) ∷ (its_message ∷ [], []) ∷ (its_message ∷ [], its_message ∷ []) ∷ [];
@@ -104,7 +106,8 @@ accepted_by_all = refl
 
 -- ---- the order is that of the slots that carried the data frames Clean
 
--- The first message of the text is carried last: the other origin wins arbitration. What goes by other protocols has no place in the order.
+-- The first message of the text is carried last: the other origin wins arbitration. What goes by
+-- other protocols has no place in the order.
 order_of_two_origins :
     (let first = content 0 0 (11 ∷ []) in
     let second = content 1 0 (10 ∷ []) in
@@ -118,7 +121,8 @@ order_of_two_origins :
 unfolding order_row
 order_of_two_origins = refl
 
--- The data frame of node 1 is carried Partial in slot 1 and Clean in slot 5, that of node 0 in slot 2.
+-- The data frame of node 1 is carried Partial in slot 1 and Clean in slot 5, that of node 0 in slot
+-- 2.
 late_copy_moves_the_place :
     (let first = content 0 0 (11 ∷ []) in
     let second = content 1 0 (10 ∷ []) in
@@ -134,8 +138,8 @@ late_copy_moves_the_place = refl
 
 -- ---- acceptance
 
--- of a message: whether a running node has accepted it; for each node whether it has by now, and whether it had by the slot that comes as many slots
--- after slot c as the bound has
+-- of a message: whether a running node has accepted it; for each node whether it has by now, and
+-- whether it had by the slot that comes as many slots after slot c as the bound has
 pub record AcceptanceReport : Type 0 where
   pub by_some : Bool
   pub by_now : List Bool
@@ -163,7 +167,8 @@ accepted_under_lag :
 unfolding acceptance_row
 accepted_under_lag = refl
 
--- Two nodes, whose parameters meet the formulas. Node 1 rejects the first frame that accepts the message of slot 1.
+-- Two nodes, whose parameters meet the formulas. Node 1 rejects the first frame that accepts the
+-- message of slot 1.
 unfoldable two_nodes : ℕ → ScenarioParts
 two_nodes slots =
     scenario (record (three slots 1 1) { nodes = 2; bound = 18; cycle = 36; life = 18; silence = 37 }) one_tot (slot_rule 2 (Partial (set 2)) 0 ∷ [])
@@ -178,11 +183,13 @@ the_formulas_are_met : first_fault (two_nodes 22).params ≡ Ok tt
 unfolding acceptance_row two_nodes
 the_formulas_are_met = refl
 
--- The frame that accepts the message is Lost from slot 2 on. A message closes 3 slots after its place here, so that this one closes in slot 4.
+-- The frame that accepts the message is Lost from slot 2 on. A message closes 3 slots after its
+-- place here, so that this one closes in slot 4.
 unfoldable accept_is_lost : List Rule → ScenarioParts
 accept_is_lost rules = scenario (record (three 8 1 3) { bound = 3 }) one_tot rules
 
--- In slot 4 it comes in time, and in slot 5 too late: then the origin alone has accepted the message, though the run is within the hypothesis.
+-- In slot 4 it comes in time, and in slot 5 too late: then the origin alone has accepted the
+-- message, though the run is within the hypothesis.
 in_the_last_slot_and_after_it :
     map (λ rules. (let s = accept_is_lost rules in acceptance_report s (key 0 0) 1 (run_of s)))
     ((slot_rule 2 Lost 0 ∷ slot_rule 3 Lost 0 ∷ []) ∷ (slot_rule 2 Lost 0 ∷ slot_rule 3 Lost 0 ∷ slot_rule 4 Lost 0 ∷ []) ∷ [])
@@ -207,7 +214,8 @@ accepted_by_an_earlier_slot :
 unfolding acceptance_row accept_is_lost
 accepted_by_an_earlier_slot = refl
 
--- The sender of a frame that was carried Clean stops before it accepts its message: the others have it, and none accepts it.
+-- The sender of a frame that was carried Clean stops before it accepts its message: the others have
+-- it, and none accepts it.
 unfoldable sender_stops_after_clean : ScenarioParts
 sender_stops_after_clean = scenario (three 37 1 0) one_tot (slot_rule 1 Clean 1 ∷ [])
 
@@ -234,7 +242,8 @@ partial_is_dropped = refl
 
 -- ---- restarts
 
--- Node 1 of the two stops in slot 4, starts again at its end, and takes part from slot 23 on. A second message is sent in slot 24.
+-- Node 1 of the two stops in slot 4, starts again at its end, and takes part from slot 23 on. A
+-- second message is sent in slot 24.
 unfoldable node_1_starts_again : ℕ → ScenarioParts
 node_1_starts_again slots =
     record (two_nodes slots) {
@@ -246,7 +255,8 @@ node_1_starts_again slots =
 abbrev second_message : Content
 second_message = content 0 1 (2 ∷ [])
 
--- the order of the slots in which it takes part is empty, while that of the run has the message, and the other node follows this
+-- the order of the slots in which it takes part is empty, while that of the run has the message,
+-- and the other node follows this
 restarted_after_the_message :
     (let s = node_1_starts_again 10 in order_report s (run_of s)) ≡ record {
       order = its_message ∷ [];
@@ -268,14 +278,16 @@ restarted_follows_the_order_of_its_slots :
 unfolding acceptance_row two_nodes node_1_starts_again
 restarted_follows_the_order_of_its_slots = refl
 
--- Node 2 starts again in slot 0, and takes part from slot 3 on: a message closes 2 slots after its place here.
+-- Node 2 starts again in slot 0, and takes part from slot 3 on: a message closes 2 slots after its
+-- place here.
 unfoldable from_3 : List Rule → ScenarioParts
 from_3 rules =
     record (scenario (record (three 8 1 2) { bound = 2 }) (send_tot 1 0 (1 ∷ []) ∷ []) (slot_rule 0 Clean 4 ∷ rules)) {
       restarts = record { slot = 0; node = 2 } ∷ [];
     }
 
--- The data frame is carried Partial in slot 2 and Clean in slot 3: its place in the order is slot 3, and the node delivers it.
+-- The data frame is carried Partial in slot 2 and Clean in slot 3: its place in the order is slot
+-- 3, and the node delivers it.
 clean_since_it_takes_part :
     (let s = from_3 (slot_rule 2 (Partial (set 2)) 0 ∷ []) in order_report s (run_of s)) ≡ record {
       order = its_message ∷ [];
@@ -286,7 +298,8 @@ clean_since_it_takes_part :
 unfolding acceptance_row from_3
 clean_since_it_takes_part = refl
 
--- It is carried Clean in slot 2, and accepted in slot 3: the node hears this, but has no place of the message.
+-- It is carried Clean in slot 2, and accepted in slot 3: the node hears this, but has no place of
+-- the message.
 clean_before_it_takes_part :
     (let s = from_3 [] in order_report s (run_of s)) ≡ record {
       order = its_message ∷ [];
@@ -297,7 +310,8 @@ clean_before_it_takes_part :
 unfolding acceptance_row from_3
 clean_before_it_takes_part = refl
 
--- in the first of the two the data frame was first carried before the node takes part, so that the order says more of it than agreement
+-- in the first of the two the data frame was first carried before the node takes part, so that the
+-- order says more of it than agreement
 first_carried_in_slot_2 :
     map (λ rules. (let s = from_3 rules in first_carried (tot_of_key (key 0 0)) (run_of s).trace))
     ((slot_rule 2 (Partial (set 2)) 0 ∷ []) ∷ [] ∷ [])
@@ -313,7 +327,8 @@ not_accepted_by_the_restarted = refl
 
 -- ---- that the premises are needed
 
--- Outside the hypothesis: the sender of the first message is content although node 2 rejects its frame. Node 2 delivers the second alone.
+-- Outside the hypothesis: the sender of the first message is content although node 2 rejects its
+-- frame. Node 2 delivers the second alone.
 unfoldable pub silent_to_node_2 : ScenarioParts
 silent_to_node_2 = scenario (three 8 1 2) (send_tot 0 0 (1 ∷ []) ∷ send_tot 0 1 (2 ∷ []) ∷ []) (slot_rule 1 (Silent (set 4)) 0 ∷ [])
 
@@ -335,7 +350,8 @@ unfoldable accept_to_node_1 : ℕ → ScenarioParts
 accept_to_node_1 omit =
     scenario (three 39 omit 2) (send_tot 0 0 (1 ∷ []) ∷ send_tot 5 1 (2 ∷ []) ∷ []) (slot_rule 2 (Partial (set 4)) 1 ∷ [])
 
--- Where no omission is allowed, node 1 does not send it again. So node 2 drops the first message, and delivers the second alone.
+-- Where no omission is allowed, node 1 does not send it again. So node 2 drops the first message,
+-- and delivers the second alone.
 one_omission_too_many :
     (let s = accept_to_node_1 0 in order_report s (run_of s)) ≡ record {
       order = its_message ∷ of_node_1 ∷ [];
@@ -359,8 +375,9 @@ one_omission_that_is_allowed :
 unfolding acceptance_row accept_to_node_1
 one_omission_that_is_allowed = refl
 
--- Within the hypothesis, but a message closes 3 slots after its place, where the formulas want 73. The frame that accepts the message of node 1 waits
--- until this closes, since the frame that accepts the other message wins.
+-- Within the hypothesis, but a message closes 3 slots after its place, where the formulas want 73.
+-- The frame that accepts the message of node 1 waits until this closes, since the frame that
+-- accepts the other message wins.
 unfoldable pub closes_too_early : List Rule → ScenarioParts
 closes_too_early rules =
     scenario (record (lag_1 5 1) { errors = 1; bound = 3 }) (send_tot 0 1 (1 ∷ []) ∷ send_tot 1 0 (2 ∷ []) ∷ []) rules

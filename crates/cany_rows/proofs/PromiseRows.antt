@@ -1,4 +1,5 @@
--- Worked rows of the whole promise: a run that keeps all of it, and for each part one that does not.
+-- Worked rows of the whole promise: a run that keeps all of it, and for each part one that does
+-- not.
 use Rattle.std.specs.Prelude.{ℕ, ◌+◌, ◌*◌, ◌<◌, ◌≤◌, ◌≡◌, ◌&&◌, Bool, true, List, [], ◌∷◌, Option, Some, None, Ok, map, refl}
 use Rattle.std.proofs.Common.{ap, arith, inl, lit<, lit≤, subst, sym}
 use Rattle.cany_base.specs.declared.log_entry.LogEntry.{LogEntry}
@@ -29,8 +30,9 @@ use Rattle.cany_rows.proofs.SiteWords.{asks_at, els, fda, join, leave, of_member
 
 -- ---- a run that keeps the whole promise
 
--- Three nodes, of which 0 and 1 are members, and the least bound, cycle, life and silence that the formulas allow. Each sends a message, node 2 one
--- more. Node 2 rejects the first frame, and asks to join; node 1 asks to leave, and stops.
+-- Three nodes, of which 0 and 1 are members, and the least bound, cycle, life and silence that the
+-- formulas allow. Each sends a message, node 2 one more. Node 2 rejects the first frame, and asks
+-- to join; node 1 asks to leave, and stops.
 unfoldable whole : ScenarioParts
 whole =
     with_asks (asks_at 10 2 ∷ []) (asks_at 20 1 ∷ []) (of_members 3 (scenario (three 106 1 1)
@@ -45,7 +47,8 @@ formulas_are_met : first_fault whole.params ≡ Ok tt
 unfolding promise_row whole
 formulas_are_met = refl
 
--- whether a node runs at the end of a run, since which slot it takes part, and how many slots it has read
+-- whether a node runs at the end of a run, since which slot it takes part, and how many slots it
+-- has read
 record NodeEnd : Type 0 where
   running : Bool
   from : ℕ
@@ -54,8 +57,9 @@ record NodeEnd : Type 0 where
 abbrev node_end : RunState → ℕ → NodeEnd
 node_end s i = record { running = runs (node_at s.nodes i); from = (node_at s.nodes i).present.from; read = reads s i }
 
--- What is seen of the run, which is computed here once: where it leaves the hypothesis, its report, its order, the vectors of cycle 1, in which slot the sign of the
--- stop of node 1 was first carried, whether nobody waits with it and all is read, and nodes 0 and 2.
+-- What is seen of the run, which is computed here once: where it leaves the hypothesis, its report,
+-- its order, the vectors of cycle 1, in which slot the sign of the stop of node 1 was first
+-- carried, whether nobody waits with it and all is read, and nodes 0 and 2.
 record SeenOfWhole : Type 0 where
   broken : Option Break
   report : RunReport
@@ -80,8 +84,10 @@ whole_seen_in w =
       node_2 = node_end s 2;
     }
 
--- All messages are settled, and in the logs of nodes 0 and 2, which are correct. Both tell of the stop of node 1 and have the same view. The order has the messages
--- by TOTCAN, and every node has delivered all of it. Nodes 0 and 2 install one vector at the end of cycle 1, which node 1 has not read.
+-- All messages are settled, and in the logs of nodes 0 and 2, which are correct. Both tell of the
+-- stop of node 1 and have the same view. The order has the messages by TOTCAN, and every node has
+-- delivered all of it. Nodes 0 and 2 install one vector at the end of cycle 1, which node 1 has not
+-- read.
 promise_is_kept :
     (let all = content 0 0 (1 ∷ []) ∷ content 2 1 (4 ∷ []) ∷ [] in
     let signs = Failed 71 1 1 ∷ View 105 1 (set 5) ∷ [] in
@@ -145,7 +151,8 @@ premises_are_met =
 not_below_0 : {P : Type 0} (k : ℕ) → k < 0 → P
 not_below_0 k below = absurd (omega (arith, below))
 
--- A message by one of the services: its sender is content although node 2 rejects its frame, and no omission is allowed. The formulas are met.
+-- A message by one of the services: its sender is content although node 2 rejects its frame, and no
+-- omission is allowed. The formulas are met.
 unfoldable silent_by : Service → ScenarioParts
 silent_by by = scenario (three 39 0 2) (record { slot = 0; node = 0; service = by; payload = 1 ∷ [] } ∷ []) (slot_rule 1 (Silent (set 4)) 0 ∷ [])
 
@@ -195,14 +202,16 @@ agreement_fails service.Tot agreed =
 
 -- ---- one order
 
--- that of row `silent_omission_breaks_the_order`: node 0 begins with a message that the order does not have
+-- that of row `silent_omission_breaks_the_order`: node 0 begins with a message that the order does
+-- not have
 one_order_fails : HasOneOrder silent_to_node_2 (run_of silent_to_node_2) → ⊥
 unfolding promise_row silent_to_node_2
 one_order_fails follows = two_is_not_one (ap first_origin (follows 0 (record { there = lit< tt; running = refl })).prefix)
 
 -- ---- one view
 
--- Node 2 asks to leave, and stops: node 1 alone does not hear it. So nodes 0 and 1 start cycle 1 with two vectors, in slot 8.
+-- Node 2 asks to leave, and stops: node 1 alone does not hear it. So nodes 0 and 1 start cycle 1
+-- with two vectors, in slot 8.
 unfoldable leave_at_node_0 : ℕ → List Rule → ScenarioParts
 leave_at_node_0 bound rules =
     with_asks [] (asks_at 6 2 ∷ [])
@@ -233,7 +242,8 @@ one_view_fails alike =
     (alike 0 1 (record { there = lit< tt; running = refl }) (record { there = lit< tt; running = refl }) 1 11 11 (set 3) (set 7)
     (0, lit< tt, refl) (0, lit< tt, refl)))
 
--- within the hypothesis, where a cycle ends before two Lost slots are made up for: no vector of node 0 is carried
+-- within the hypothesis, where a cycle ends before two Lost slots are made up for: no vector of
+-- node 0 is carried
 bound_too_small_breaks_the_views :
     outcome (leave_at_node_0 2 (slot_rule 9 Lost 0 ∷ slot_rule 10 Lost 0 ∷ []))
     ≡ ([], (View 10 1 (set 3) ∷ []) ∷ (View 10 1 (set 7) ∷ []) ∷ [] ∷ [], None)
@@ -242,7 +252,8 @@ bound_too_small_breaks_the_views = refl
 
 -- ---- failure signs
 
--- Node 2 shows life to node 1 alone, and stops. Node 0 finds in slot 8 that it failed, and is content although node 1 rejects its sign.
+-- Node 2 shows life to node 1 alone, and stops. Node 0 finds in slot 8 that it failed, and is
+-- content although node 1 rejects its sign.
 unfoldable silent_sign : ScenarioParts
 silent_sign =
     of_members 7 (scenario (record (three 10 1 2) { cycle = 100; life = 4; silence = 8 }) []

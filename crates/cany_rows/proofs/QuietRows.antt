@@ -25,8 +25,9 @@ use Rattle.cany_rows.proofs.SiteWords.{classes, els, of_members, rha, rounds_of,
 
 -- ---- what a row is written with
 
--- of a running node in a state: whether it waits with a frame of the classes that win over all others, and for each notice that it has not read, the
--- newest first, whether this will make it ask for such a frame but a life sign
+-- of a running node in a state: whether it waits with a frame of the classes that win over all
+-- others, and for each notice that it has not read, the newest first, whether this will make it ask
+-- for such a frame but a life sign
 abbrev first_frames : ScenarioParts → RunState → ℕ → Bool × List Bool
 first_frames sc s i =
     if runs (node_at s.nodes i)
@@ -62,8 +63,9 @@ asks_that_count = refl
 
 -- ---- a quiet slot
 
--- The run of row `totcan_accept_under_lag`. In slot 2 node 0 waits with the frame that accepts its message. In slot 3 nobody waits, but node 3
--- has not read that frame, and will ask for it. In slot 4 it waits with it, and in slot 5 the others. Slots 0, 1 and 6 are quiet.
+-- The run of row `totcan_accept_under_lag`. In slot 2 node 0 waits with the frame that accepts its
+-- message. In slot 3 nobody waits, but node 3 has not read that frame, and will ask for it. In slot
+-- 4 it waits with it, and in slot 5 the others. Slots 0, 1 and 6 are quiet.
 quiet_under_lag :
     map (in_slot late_reader (steps (codes ".012.0123.123.123.123.123."))) (0 ∷ 1 ∷ 2 ∷ 3 ∷ 4 ∷ 5 ∷ 6 ∷ 7 ∷ [])
     ≡ Some ((false, []) ∷ (false, []) ∷ (false, []) ∷ (false, []) ∷ [])
@@ -77,15 +79,17 @@ quiet_under_lag :
 unfolding quiet_row
 quiet_under_lag = refl
 
--- The slots whose notices make a node ask, from the newest back to the opening and beyond: slot 4, which nodes 1 and 2 got, slot 2, which node
--- 3 got, and slot 1, at which node 0 asked, which is stopped. In slot 5 all have enough copies.
+-- The slots whose notices make a node ask, from the newest back to the opening and beyond: slot 4,
+-- which nodes 1 and 2 got, slot 2, which node 3 got, and slot 1, at which node 0 asked, which is
+-- stopped. In slot 5 all have enough copies.
 asking_under_lag :
     asking late_reader 8 (steps (codes ".012.0123.123.123.123.123"))
     ≡ false ∷ true ∷ false ∷ true ∷ true ∷ false ∷ false ∷ false ∷ []
 unfolding quiet_row
 asking_under_lag = refl
 
--- it counts in each of these states: before it has read the notice, after, and once it has stopped in slot 2
+-- it counts in each of these states: before it has read the notice, after, and once it has stopped
+-- in slot 2
 asking_of_the_origin :
     map (λ journal. asking late_reader 3 (steps journal)) (codes ".012." ∷ codes ".012.0123" ∷ codes ".012.0123." ∷ [])
     ≡ (true ∷ false ∷ false ∷ []) ∷ (true ∷ false ∷ false ∷ []) ∷ (true ∷ true ∷ false ∷ []) ∷ []
@@ -124,13 +128,15 @@ slot_6_was_quiet = record { state = before_slot_6; ran = refl; quiet = record { 
 
 -- ---- vectors and life signs
 
--- Two of three nodes are members. A cycle starts in slot 8, a message closes 3 slots after its place, and life signs come far off.
+-- Two of three nodes are members. A cycle starts in slot 8, a message closes 3 slots after its
+-- place, and life signs come far off.
 unfoldable two_members : ScenarioParts
 two_members =
     of_members 3 (scenario (record (three 20 1 2) { lag = 1; bound = 3; cycle = 8; life = 60; silence = 90 }) [] [])
 
--- In slot 9 the members have not read the start of the cycle, and will ask for their vectors; in slot 10 they wait with them. Node 2 has none, and
--- will ask at the first that it gets: that of slot 10, which it has not read in slot 11.
+-- In slot 9 the members have not read the start of the cycle, and will ask for their vectors; in
+-- slot 10 they wait with them. Node 2 has none, and will ask at the first that it gets: that of
+-- slot 10, which it has not read in slot 11.
 vectors_are_waited_for :
     map (in_slot two_members (steps (rounds_of 8 (codes ".012") ++ codes "..012.012."))) (8 ∷ 9 ∷ 10 ∷ 11 ∷ [])
     ≡ Some ((false, []) ∷ (false, []) ∷ (false, []) ∷ [])
@@ -147,8 +153,8 @@ asking_for_vectors :
 unfolding quiet_row two_members
 asking_for_vectors = refl
 
--- Life signs are due in the turn of slot 4. A notice that makes a node ask for one does not count: slot 5 is quiet, and slot 6, in which they wait,
--- is not.
+-- Life signs are due in the turn of slot 4. A notice that makes a node ask for one does not count:
+-- slot 5 is quiet, and slot 6, in which they wait, is not.
 life_signs_are_waited_for :
     (let sc = of_members 3 (scenario (record (three 20 1 2) { lag = 1; bound = 3; cycle = 8; life = 4; silence = 90 }) [] []) in
     map (in_slot sc (steps (rounds_of 4 (codes ".012") ++ codes "..012."))) (5 ∷ 6 ∷ [])
@@ -159,8 +165,9 @@ life_signs_are_waited_for = refl
 
 -- ---- a restarted node
 
--- Node 2 starts again in slot 0, and takes part from slot 4 on. The frame of slot 2 accepts the message: neither node has read it in slot 3, and
--- it makes node 1 ask, but not node 2, from which it is hidden.
+-- Node 2 starts again in slot 0, and takes part from slot 4 on. The frame of slot 2 accepts the
+-- message: neither node has read it in slot 3, and it makes node 1 ask, but not node 2, from which
+-- it is hidden.
 hidden_notice_makes_no_node_ask :
     (let sc = record (scenario (record (three 9 1 2) { lag = 1; bound = 2 }) one_tot (slot_rule 0 Clean 4 ∷ [])) {
       restarts = record { slot = 0; node = 2 } ∷ [];
@@ -177,7 +184,8 @@ hidden_notice_makes_no_node_ask = refl
 unfoldable clean_counts : List SlotNote → List ℕ
 clean_counts trace = map (λ c. count_by (is_clean_of c) trace) classes
 
--- Each of the four classes that a window is counted for has one Clean slot, and slots of other verdicts. An idle slot is Clean, and carried none.
+-- Each of the four classes that a window is counted for has one Clean slot, and slots of other
+-- verdicts. An idle slot is Clean, and carried none.
 unfoldable mixed : List SlotNote
 mixed =
     carries 12 first_tot 1 6 Clean 0 ∷ idle 11 0 ∷ carries 10 first_tot 1 2 (Partial (set 4)) 0 ∷ carries 9 (els 1 0) 2 5 Clean 0
@@ -189,7 +197,8 @@ each_is_counted_once : clean_counts mixed ≡ 1 ∷ 1 ∷ 1 ∷ 0 ∷ 0 ∷ 0 �
 unfolding quiet_row clean_counts mixed
 each_is_counted_once = refl
 
--- the slots that a window of 3 + 1 slots has, as it goes back over 6 slots: it is shorter at the opening
+-- the slots that a window of 3 + 1 slots has, as it goes back over 6 slots: it is shorter at the
+-- opening
 windows_of_4_slots :
     (let trace = map (λ seq. carries seq (accept 0 seq) 1 6 Clean 0) (5 ∷ 4 ∷ 3 ∷ 2 ∷ 1 ∷ 0 ∷ []) in
     let p = record (three 9 1 2) { lag = 1; bound = 3 } in
@@ -216,7 +225,8 @@ window_row = tt
 not_one_more : (n : ℕ) → n + 1 ≤ n → ⊥
 not_one_more n below = omega (arith, below)
 
--- 8 frames that accept, 6 vectors, 2 life signs and 2 data frames of TOTCAN are allowed, and not one more
+-- 8 frames that accept, 6 vectors, 2 life signs and 2 data frames of TOTCAN are allowed, and not
+-- one more
 nine_accepts_are_too_many : HasFewAccepts (window_of 8) (clean_slots (accept 0) 9) → ⊥
 unfolding window_row
 nine_accepts_are_too_many few = not_one_more 8 (few 0)
@@ -252,13 +262,15 @@ as_many_are_allowed trace = (
   few_in_a_short_window _ _ (window_of 1) trace (lit≤ tt),
 )
 
--- how many life signs the newest window of a run of three members has, by the slots between two life signs of a node
+-- how many life signs the newest window of a run of three members has, by the slots between two
+-- life signs of a node
 unfoldable life_signs : ℕ → ℕ
 life_signs life =
     let sc = of_members 7 (scenario (record (three 60 1 2) { life = life; silence = 200 }) [] []) in
     count_by (is_clean_of class.Els) (take (sc.params.bound + sc.params.lag) (run_of sc).trace)
 
--- each node shows life once in a window of 36 slots, where the formulas are met, and else more often
+-- each node shows life once in a window of 36 slots, where the formulas are met, and else more
+-- often
 life_signs_in_a_window : map life_signs (36 ∷ 12 ∷ []) ≡ 3 ∷ 9 ∷ []
 unfolding quiet_row life_signs
 life_signs_in_a_window = refl
@@ -270,7 +282,8 @@ most_that_ask = refl
 
 -- ---- a bound that is too small
 
--- The run of row `bound_too_small_breaks_the_order`: of the slots 2, 3 and 4, as many as the bound has, none is quiet.
+-- The run of row `bound_too_small_breaks_the_order`: of the slots 2, 3 and 4, as many as the bound
+-- has, none is quiet.
 none_is_quiet :
     map (in_slot starved starved_journal) (2 ∷ 3 ∷ 4 ∷ [])
     ≡ Some ((false, []) ∷ (false, true ∷ []) ∷ (false, []) ∷ [])

@@ -1,4 +1,5 @@
--- Worked rows of the ranges of the top keys of a text: each at its ends, and by one past them; and the formulas.
+-- Worked rows of the ranges of the top keys of a text: each at its ends, and by one past them; and
+-- the formulas.
 use Rattle.std.specs.Prelude.{◌≡◌, ℕ, true, pos, negsuc, List, [], ◌∷◌, map, Option, Some, None, refl, codes}
 use Rattle.toml.specs.Data.{integer, boolean, no_members, member}
 use Rattle.cany_base.specs.declared.params.ParamName.{ParamName}

@@ -1,4 +1,5 @@
--- Worked rows of the lines of refusals: one for each fault of a text, and one for each of a journal.
+-- Worked rows of the lines of refusals: one for each fault of a text, and one for each of a
+-- journal.
 use Rattle.std.specs.Prelude.{◌≡◌, ℕ, pos, negsuc, List, [], ◌∷◌, map, Some, None, refl, codes}
 use Rattle.std.specs.Fmt.{digits}
 use Rattle.cany_base.specs.declared.params.ParamName.TheVariants as param

@@ -1,4 +1,5 @@
--- Worked rows of nodes that start again and join: a node takes part in a membership cycle if it takes part in the slot in which this starts.
+-- Worked rows of nodes that start again and join: a node takes part in a membership cycle if it
+-- takes part in the slot in which this starts.
 use Rattle.std.specs.Prelude.{ℕ, ◌≡◌, ◌++◌, true, false, List, [], ◌∷◌, Option, Some, None, codes, map, refl}
 use Rattle.cany_base.specs.declared.log_entry.LogEntry.{LogEntry}
 use Rattle.cany_base.specs.declared.log_entry.LogEntry.TheVariants.{Failed, View}
@@ -20,8 +21,8 @@ use Rattle.cany_rows.proofs.SiteWords.{asks_at, els, fda, join, leave, of_member
 
 -- ---- what a row is written with
 
--- of a run by a journal the bus, the spans and the logs of the incarnations of each node, and the nodes that started again at the end of these
--- slots
+-- of a run by a journal the bus, the spans and the logs of the incarnations of each node, and the
+-- nodes that started again at the end of these slots
 pub record RejoinReport : Type 0 where
   pub bus : List SlotNote
   pub lives : List (List (Option Span × List LogEntry))
@@ -41,8 +42,9 @@ rejoin_row = tt
 
 -- ---- a node that joins again
 
--- Node 1 stops in slot 5, and the others take it out of the view. It starts again at the end of slot 110 and takes part from slot 147 on, so it
--- does not hear the vectors of cycle 2. It asks to join in slot 190, and stands in the view of cycle 3.
+-- Node 1 stops in slot 5, and the others take it out of the view. It starts again at the end of
+-- slot 110 and takes part from slot 147 on, so it does not hear the vectors of cycle 2. It asks to
+-- join in slot 190, and stands in the view of cycle 3.
 unfoldable stopped_and_back : ScenarioParts
 stopped_and_back =
     with_restarts (asks_at 110 1 ∷ []) (with_asks (asks_at 190 1 ∷ []) [] (of_members 7 (scenario (three 253 1 2) [] (slot_rule 5 Clean 2 ∷ []))))
@@ -80,7 +82,8 @@ first_cycles : map (first_cycle (short_cycles 1)) (0 ∷ 1 ∷ 7 ∷ 8 ∷ 9 ∷
 unfolding rejoin_row
 first_cycles = refl
 
--- a node that starts again in slot 4 takes part from slot 8 on, in which cycle 1 starts; one slot later it is too late for this
+-- a node that starts again in slot 4 takes part from slot 8 on, in which cycle 1 starts; one slot
+-- later it is too late for this
 incarnations_of_restarts :
     map (λ slot. next_incarnation (short_cycles 1) slot original) (4 ∷ 5 ∷ 12 ∷ []) ≡ incarnation 1 5 8 1 ∷ incarnation 1 6 9 2 ∷ incarnation 1 13 16 2 ∷ []
 unfolding rejoin_row
@@ -88,7 +91,8 @@ incarnations_of_restarts = refl
 
 -- ---- what is hidden
 
--- From the one that is too late the vectors of cycle 1 are hidden, whatever comes of them. Other frames are not, nor vectors of later cycles.
+-- From the one that is too late the vectors of cycle 1 are hidden, whatever comes of them. Other
+-- frames are not, nor vectors of later cycles.
 vectors_that_are_hidden :
     map (λ f. is_hidden (incarnation 1 6 9 2) (carries 9 f 1 6 Clean 0)) (rha 0 0 7 ∷ rha 0 1 7 ∷ rha 0 2 7 ∷ rha 0 3 7 ∷ els 0 1 ∷ fda 0 1 ∷ join 0 1 ∷ leave 0 1 ∷ ed 0 1 [] ∷ [])
     ≡ true ∷ true ∷ false ∷ false ∷ false ∷ false ∷ false ∷ false ∷ false ∷ []
@@ -123,9 +127,10 @@ node_1_stops slots rules joins restarts =
 unfoldable before_the_cycle : List SlotNote
 before_the_cycle = idle 1 2 ∷ carries 6 (els 0 0) 1 6 Clean 0 ∷ carries 7 (els 2 0) 4 3 Clean 0 ∷ carries 9 (rha 0 1 7) 1 6 Clean 0 ∷ []
 
--- Back in slot 4, it takes part in cycle 1: it takes over the vector that it gets, and sends it. So it stands in view 1, and forgets that it was
--- told to have failed. The others do not: it is their member, and not newly admitted. They leave it out of view 2. Its first ask is made too
--- early, and at the second it is a member.
+-- Back in slot 4, it takes part in cycle 1: it takes over the vector that it gets, and sends it. So
+-- it stands in view 1, and forgets that it was told to have failed. The others do not: it is their
+-- member, and not newly admitted. They leave it out of view 2. Its first ask is made too early, and
+-- at the second it is a member.
 -- It stops again in slot 20, and starts again.
 unfoldable back_in_time : ScenarioParts
 back_in_time = node_1_stops 22 (slot_rule 20 Clean 2 ∷ []) (asks_at 7 1 ∷ asks_at 12 1 ∷ []) (asks_at 4 1 ∷ asks_at 21 1 ∷ [])
@@ -146,8 +151,9 @@ takes_part_in_the_cycle_of_its_first_slot : rejoin_report back_in_time (4 ∷ 21
 unfolding rejoin_row node_1_stops before_the_cycle back_in_time log_in_time
 takes_part_in_the_cycle_of_its_first_slot = refl
 
--- Back in slot 5, it is too late for cycle 1: the vectors of this are hidden from it, so it sends none, and has no view of it. Its ask of slot 12
--- is not heard, since it is a member for the others. That of slot 20 is, and cycle 3 admits it.
+-- Back in slot 5, it is too late for cycle 1: the vectors of this are hidden from it, so it sends
+-- none, and has no view of it. Its ask of slot 12 is not heard, since it is a member for the
+-- others. That of slot 20 is, and cycle 3 admits it.
 unfoldable back_too_late : ScenarioParts
 back_too_late = node_1_stops 29 [] (asks_at 7 1 ∷ asks_at 12 1 ∷ asks_at 20 1 ∷ []) (asks_at 5 1 ∷ [])
 

@@ -16,8 +16,8 @@ use Rattle.cany_rows.proofs.RowWords.{carries, delivers_rel, first_confirm, firs
 unfoldable delivered : ℕ → List LogEntry
 delivered slot = delivers_rel slot 0 0 (1 ∷ []) ∷ []
 
--- The sender stops after only node 1 accepted its frame. The timer of node 1 runs out, node 2 delivers at its frame, and
--- falls back too, since nobody confirms.
+-- The sender stops after only node 1 accepted its frame. The timer of node 1 runs out, node 2
+-- delivers at its frame, and falls back too, since nobody confirms.
 unfoldable sender_stops_after_partial : ℕ → ScenarioParts
 sender_stops_after_partial slots = scenario (three slots 1 2) one_rel (slot_rule 1 (Partial (set 4)) 1 ∷ [])
 
@@ -57,7 +57,8 @@ premises_are_met = (
   record { there = lit< tt; running = refl },
 )
 
--- without a fault the message is confirmed, and settled once the confirmation was read: no timer runs out
+-- without a fault the message is confirmed, and settled once the confirmation was read: no timer
+-- runs out
 confirmed_in_time :
     report_of (scenario (three 14 1 2) one_rel []) ≡ whole_run (steps (codes ".012.012.012.012.012.012.012.012.012.012.012.012.012.012"))
     (carries 1 first_rel 1 6 Clean 0 ∷ carries 2 first_confirm 1 6 Clean 0 ∷ [])
@@ -76,7 +77,8 @@ open_before_first_confirmation :
 unfolding row
 open_before_first_confirmation = refl
 
--- The confirmation reaches only node 1, and its sender stops: node 2 falls back, and is alone with that.
+-- The confirmation reaches only node 1, and its sender stops: node 2 falls back, and is alone with
+-- that.
 unfoldable confirm_lost_to_node_2 : ℕ → ScenarioParts
 confirm_lost_to_node_2 stop = scenario (three 16 1 2) one_rel (frame_rule class.Confirm 0 0 1 (Partial (set 4)) stop ∷ [])
 
@@ -97,8 +99,8 @@ confirmation_is_sent_again :
 unfolding row delivered confirm_lost_to_node_2
 confirmation_is_sent_again = refl
 
--- The sender stops in the slot of its frame, so nobody confirms. With omit 0 the one copy is enough, and nobody sends when the
--- timers run out, at slot 11: the message is settled with that.
+-- The sender stops in the slot of its frame, so nobody confirms. With omit 0 the one copy is
+-- enough, and nobody sends when the timers run out, at slot 11: the message is settled with that.
 unfoldable nobody_confirms : ℕ → ℕ → ScenarioParts
 nobody_confirms slots omit = scenario (three slots omit 2) one_rel (slot_rule 1 Clean 1 ∷ [])
 

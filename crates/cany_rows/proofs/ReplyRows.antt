@@ -58,7 +58,8 @@ refused_step_changes_nothing = refl
 
 -- Settled.
 
--- not before the origin's turn of its slot, not while a frame waits, not while a notice is unread, and then before the run ends
+-- not before the origin's turn of its slot, not while a frame waits, not while a notice is unread,
+-- and then before the run ends
 settled_in_time :
     map (λ journal. (report (scenario (three 5 1 2) one_message []) (steps journal)).settled)
     ([] ∷ codes "." ∷ codes ".012" ∷ codes ".012." ∷ codes ".012.0" ∷ codes ".012.012" ∷ codes ".012.012." ∷ codes ".012.012.12" ∷ codes ".012.012.012" ∷ [])
@@ -66,7 +67,8 @@ settled_in_time :
 unfolding row
 settled_in_time = refl
 
--- at slot 0 all has been read and nobody waits, but a one_message of slot 2 is not asked for; it is settled once its origin stops
+-- at slot 0 all has been read and nobody waits, but a one_message of slot 2 is not asked for; it is
+-- settled once its origin stops
 not_asked_for :
     map (λ rules. (report (scenario (three 5 1 2) (send 2 0 [] ∷ []) rules) (steps (codes ".012.12"))).settled)
     ([] ∷ (slot_rule 1 Clean 1 ∷ []) ∷ [])

@@ -94,7 +94,8 @@ entry_lines : lines_of_entries (
 unfolding lines_of_entries nodes entry_line line_of digits service_name payload_text set_text has
 entry_lines = refl
 
--- the notes of slots that carried no frame, and of one whose remote frame nobody accepted, with the stops
+-- the notes of slots that carried no frame, and of one whose remote frame nobody accepted, with the
+-- stops
 unfoldable idle_slot : ℕ → ℕ → SlotNote
 idle_slot slot stops = record { slot = slot; frame = None; senders = nodes 0; takers = nodes 0; verdict = Clean; stops = nodes stops }
 
@@ -118,7 +119,8 @@ bus_lines_alone : bus_line (idle_slot 7 9) (nodes 0) ∷ bus_line (lost_sign 0) 
 unfolding note_row
 bus_lines_alone = refl
 
--- a node that is not in its first incarnation is told with its number; the nodes that start again come after those that stop
+-- a node that is not in its first incarnation is told with its number; the nodes that start again
+-- come after those that stop
 bus_lines_with_restarts : bus_line (idle_slot 7 0) (nodes 1) ∷ bus_line (idle_slot 7 9) (nodes 6) ∷ bus_line (lost_sign 15) (nodes 4) ∷ []
     ≡ codes "bus 7 idle restart 0\n" ∷ codes "bus 7 idle stop 0,3 restart 1,2\n" ∷ codes "bus 9 els 2/15 4 r from 2 to - lost restart 2\n"
     ∷ []

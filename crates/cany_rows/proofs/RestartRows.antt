@@ -98,7 +98,8 @@ first_slots = refl
 unfoldable stops_in_1 : ℕ → List NodeAsk → ScenarioParts
 stops_in_1 slots restarts = with_restarts restarts (scenario (soon slots) [] (slot_rule 1 Clean 1 ∷ []))
 
--- a node that starts again in the very slot of its stop misses no slot: only the turn of that one falls out
+-- a node that starts again in the very slot of its stop misses no slot: only the turn of that one
+-- falls out
 restart_in_the_slot_of_the_stop :
     (let sc = stops_in_1 4 (again 1 0 ∷ []) in restart_report sc (0 ∷ 1 ∷ 2 ∷ []) (run sc (steps (codes ".012.12.012.012")))) ≡ record {
       bus = idle 1 1 ∷ [];
@@ -149,7 +150,8 @@ two_entries_make_one_restart :
 unfolding restart_row stops_in_1
 two_entries_make_one_restart = refl
 
--- one node stops twice and starts again twice, once with another: the second time it reads one notice before it stops
+-- one node stops twice and starts again twice, once with another: the second time it reads one
+-- notice before it stops
 two_restarts :
     (let sc = with_restarts (again 2 0 ∷ again 5 1 ∷ again 5 0 ∷ []) (scenario (soon 8) [] (slot_rule 1 Clean 1 ∷ slot_rule 4 Clean 3 ∷ [])) in
     restart_report sc (2 ∷ 5 ∷ []) (run_of sc)) ≡ record {
@@ -243,8 +245,8 @@ settled_as_it_comes_too_late :
 unfolding restart_row sends_at_2_and_3 from_3
 settled_as_it_comes_too_late = refl
 
--- Node 1 sends two messages: node 0 takes the frames of the first, which are carried in slots 1 and 2, as any node does, but its
--- history does not have them. It has that of slot 3.
+-- Node 1 sends two messages: node 0 takes the frames of the first, which are carried in slots 1 and
+-- 2, as any node does, but its history does not have them. It has that of slot 3.
 unfoldable two_are_sent : ScenarioParts
 two_are_sent = from_3 6 (send 0 1 (1 ∷ []) ∷ send 2 1 (2 ∷ []) ∷ [])
 
@@ -279,14 +281,16 @@ none_is_hidden_from_the_first : map (λ slot. is_hidden (incarnation 0 0 3 1) (i
 unfolding restart_row
 none_is_hidden_from_the_first = refl
 
--- the scenario as it follows it: it is no member, and tells its number, and that of the opening follows it as it is read
+-- the scenario as it follows it: it is no member, and tells its number, and that of the opening
+-- follows it as it is read
 followed_scenario :
     (let sc = record (scenario (three 60 1 2) [] []) { members = set 7 } in map (scenario_for sc) (original ∷ incarnation 1 11 47 1 ∷ []))
     ≡ record (scenario (three 60 1 2) [] []) { members = set 7 } ∷ record (scenario (three 60 1 2) [] []) { from = 47; inc = 1 } ∷ []
 unfolding restart_row
 followed_scenario = refl
 
--- An origin that started again is the origin of its earlier message too: it delivers at a copy, and has no timer. The others fall back.
+-- An origin that started again is the origin of its earlier message too: it delivers at a copy, and
+-- has no timer. The others fall back.
 restarted_origin_has_no_timer :
     (let sc = with_restarts (again 1 0 ∷ []) (scenario (soon 24) one_rel (slot_rule 1 Clean 1 ∷ [])) in
     restart_report sc (1 ∷ []) (run_of sc)) ≡ record {
@@ -305,7 +309,8 @@ message slot seq payload = record { slot = slot; origin = 1; seq = seq; service 
 three-is-above-1 : 3 ≤ 1 → ⊥
 three-is-above-1 below = omega (arith, below)
 
--- the premises of agreement are met at a node that started again, of the message that was first carried since it takes part
+-- the premises of agreement are met at a node that started again, of the message that was first
+-- carried since it takes part
 premises_are_met_after_a_restart :
     (let s = run_of two_are_sent in
     let m = message 2 1 (2 ∷ []) in
@@ -322,7 +327,8 @@ premises_are_met_after_a_restart = (
   record { correct = record { there = lit< tt; running = refl }; took_part = lit≤ tt },
 )
 
--- of the message that was carried before they are not: it is settled, and the restarted node does not deliver it
+-- of the message that was carried before they are not: it is settled, and the restarted node does
+-- not deliver it
 not_met_of_an_earlier_message :
     (let s = run_of two_are_sent in
     let m = message 0 0 (1 ∷ []) in

@@ -144,12 +144,14 @@ pub record Walk : Type 0 where
 abbrev pub walk_by : ScenarioParts → RunState → List Step → Walk
 walk_by sc s journal = record { journal = journal; end = run_from sc s journal; legal = is_legal_from sc s journal }
 
--- The rest of a whole journal, where those before it are legal or not: each state is computed once, for where it leads and for whether the next step is done.
+-- The rest of a whole journal, where those before it are legal or not: each state is computed once,
+-- for where it leads and for whether the next step is done.
 unfoldable pub walk : ScenarioParts → RunState → Bool → List Step → List Step → Walk
 walk sc s legal whole [] = record { journal = whole; end = s; legal = legal }
 walk sc s legal whole (step ∷ rest) = walk sc (after_step sc s step) (legal && is_done (reply sc s step)) whole rest
 
--- The same of so many rounds after a journal. The round robin journal has the steps of the states to which its rounds lead: these are read off the same states.
+-- The same of so many rounds after a journal. The round robin journal has the steps of the states
+-- to which its rounds lead: these are read off the same states.
 unfoldable pub walk_rounds : ScenarioParts → ℕ → RunState → Bool → List Step → Walk
 walk_rounds sc zero s legal journal = record { journal = journal; end = s; legal = legal }
 walk_rounds sc (suc n) s legal journal =
@@ -263,7 +265,8 @@ unfoldable pub insides : ScenarioParts → List Step → List NodeInside
 unfolding report
 insides sc journal = map (λ node. record { transmit = node.transmit; receive = node.receive; waiting = node.waiting }) (run sc journal).nodes
 
--- what stops a journal: the first step that is not done, or that slots or notices are left at its end
+-- what stops a journal: the first step that is not done, or that slots or notices are left at its
+-- end
 pub data Followed : Type 0 where
   Followed-all : Followed
   Refused : ℕ → StepReply → Followed

@@ -1,4 +1,5 @@
--- Worked rows of whole texts: members, joins, leaves and restarts, and the defaults of the parameters.
+-- Worked rows of whole texts: members, joins, leaves and restarts, and the defaults of the
+-- parameters.
 use Rattle.std.specs.Prelude.{◌≡◌, ℕ, pos, List, [], ◌∷◌, None, Ok, Err, refl, codes}
 use Rattle.std.specs.Str.{chars, is_utf8}
 use Rattle.toml.specs.Data.{Members, no_members}

@@ -7,8 +7,8 @@ use Rattle.cany_model.specs.declared.breaks.BreakKind.TheVariants as kind
 use Rattle.cany_model.specs.declared.reply.StepReply.TheVariants.{Lagging}
 use Rattle.cany_rows.proofs.RowWords.{broken_run, Refused, carries, delivers, ed, follow, idle, report, row, scenario, send, set, slot_rule, steps, three, running_node, stopped_node, whole_run, report_of}
 
--- round robin at errors 1: slot 1 stops a receiver, later rules name it again or fall on idle slots and do nothing, and slot 7 is
--- the second error
+-- round robin at errors 1: slot 1 stops a receiver, later rules name it again or fall on idle slots
+-- and do nothing, and slot 7 is the second error
 one_error_too_many :
     (let long : List ℕ = 253 ∷ 188 ∷ 71 ∷ 251 ∷ 39 ∷ 131 ∷ 205 ∷ 196 ∷ [] in
     let log : List LogEntry = delivers 2 2 1 (189 ∷ []) ∷ delivers 4 1 0 (65 ∷ []) ∷ delivers 6 1 1 (5 ∷ []) ∷ delivers 8 2 0 long ∷ [] in
@@ -24,7 +24,8 @@ one_error_too_many :
 unfolding row
 one_error_too_many = refl
 
--- two nodes by a given journal: a Silent slot that names its sender, in which the receiver stops, and a stop in an idle slot
+-- two nodes by a given journal: a Silent slot that names its sender, in which the receiver stops,
+-- and a stop in an idle slot
 silent_by_a_journal :
     (let first : List ℕ = 31 ∷ 11 ∷ 165 ∷ 76 ∷ [] in
     let second : List ℕ = 48 ∷ 242 ∷ 120 ∷ 69 ∷ [] in
@@ -38,7 +39,8 @@ silent_by_a_journal :
 unfolding row
 silent_by_a_journal = refl
 
--- at lag 1 two nodes stop in idle slots, and the one_message of slot 17 is not yet settled at the end
+-- at lag 1 two nodes stop in idle slots, and the one_message of slot 17 is not yet settled at the
+-- end
 stops_at_lag_1 :
     (let s = scenario (record { format = One; nodes = 3; lag = 1; omit = 1; errors = 8; bound = 87; cycle = 176; life = 88; silence = 177; confirm = 10; slots = 19 })
     (send 18 2 (154 ∷ 111 ∷ 60 ∷ 130 ∷ 116 ∷ 65 ∷ 239 ∷ 2 ∷ []) ∷ send 17 1 [] ∷ [])

@@ -1,4 +1,5 @@
--- What the worked rows of the site are written with: life signs, failure signs, vectors, and asks to join and to leave.
+-- What the worked rows of the site are written with: life signs, failure signs, vectors, and asks
+-- to join and to leave.
 use Rattle.std.specs.Prelude.{ℕ, ◌++◌, List, [], ◌∷◌, replicate, reverse}
 use Rattle.std.specs.List.{concat}
 use Rattle.cany_base.specs.declared.class.Class.{Class}
@@ -69,7 +70,8 @@ read slots notices = reverse notices ++ replicate slots Idle
 unfoldable pub sign : ℕ → ℕ → FailureSign
 sign node cycle = record { node = node; cycle = cycle }
 
--- of a run: three nodes with cycles of 8 slots, which end in their slots 3; life signs and silence lie far off
+-- of a run: three nodes with cycles of 8 slots, which end in their slots 3; life signs and silence
+-- lie far off
 unfoldable pub short_cycles : ℕ → Parameters
 short_cycles omit = record (three 99 omit 2) { bound = 3; cycle = 8; life = 60; silence = 90 }
 

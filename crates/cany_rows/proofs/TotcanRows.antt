@@ -20,7 +20,8 @@ three_without_life_signs slots = record (three slots 1 2) { life = 60; silence =
 unfoldable rounds_of : ℕ → List ℕ → List ℕ
 rounds_of n round = concat (replicate n round)
 
--- The sender stops after only node 1 accepted its frame. Nobody accepts the message, and node 1 drops it in slot 37.
+-- The sender stops after only node 1 accepted its frame. Nobody accepts the message, and node 1
+-- drops it in slot 37.
 unfoldable sender_stops_after_partial : ℕ → ScenarioParts
 sender_stops_after_partial slots = scenario (three_without_life_signs slots) one_tot (slot_rule 1 (Partial (set 4)) 1 ∷ [])
 
@@ -39,7 +40,8 @@ settled_at_the_closing :
 unfolding row sender_stops_after_partial three_without_life_signs
 settled_at_the_closing = refl
 
--- the sender stops after only node 1 accepted the frame that accepts the message: node 1 sends it again, and node 2 too
+-- the sender stops after only node 1 accepted the frame that accepts the message: node 1 sends it
+-- again, and node 2 too
 unfoldable accept_is_partial : ScenarioParts
 accept_is_partial = scenario (three_without_life_signs 45) one_tot (slot_rule 2 (Partial (set 4)) 1 ∷ [])
 
@@ -52,8 +54,8 @@ totcan_accept_survives_its_sender :
 unfolding row delivered accept_is_partial three_without_life_signs rounds_of
 totcan_accept_survives_its_sender = refl
 
--- The message of node 1 reaches node 0 first in a Partial slot. Its later copy moves the place at node 0, so that all deliver
--- the message of node 0 before it. Both closings lie ahead at the end.
+-- The message of node 1 reaches node 0 first in a Partial slot. Its later copy moves the place at
+-- node 0, so that all deliver the message of node 0 before it. Both closings lie ahead at the end.
 totcan_late_copy_moves_the_place :
     (let early = tot 1 0 (10 ∷ []) in
     let late = tot 0 0 (11 ∷ []) in
@@ -69,7 +71,8 @@ totcan_late_copy_moves_the_place :
 unfolding row
 totcan_late_copy_moves_the_place = refl
 
--- Outside the hypothesis: the sender is content although node 2 rejects, and node 2 never has the message, which is settled.
+-- Outside the hypothesis: the sender is content although node 2 rejects, and node 2 never has the
+-- message, which is settled.
 unfoldable silent_to_node_2 : ScenarioParts
 silent_to_node_2 = scenario (three_without_life_signs 45) one_tot (slot_rule 1 (Silent (set 4)) 0 ∷ [])
 
@@ -97,7 +100,8 @@ three_services = refl
 
 -- ---- the backlog
 
--- Two messages of one origin, both scripted for slot 0. The first is sent in slot 1, so the second is asked for in slot 37.
+-- Two messages of one origin, both scripted for slot 0. The first is sent in slot 1, so the second
+-- is asked for in slot 37.
 unfoldable two_of_one_origin : ℕ → ScenarioParts
 two_of_one_origin slots = scenario (three_without_life_signs slots) (send_tot 0 0 (1 ∷ []) ∷ send_tot 0 0 (2 ∷ []) ∷ []) []
 
@@ -113,7 +117,8 @@ second_waits_in_the_backlog :
 unfolding row two_of_one_origin three_without_life_signs rounds_of
 second_waits_in_the_backlog = refl
 
--- one that waits in the backlog is open, though nobody waits with its frames and nothing of it lies ahead, until its origin stops
+-- one that waits in the backlog is open, though nobody waits with its frames and nothing of it lies
+-- ahead, until its origin stops
 unfoldable origin_stops : ℕ → ScenarioParts
 origin_stops stop = scenario (three_without_life_signs 10) (send_tot 0 0 (1 ∷ []) ∷ send_tot 0 0 (2 ∷ []) ∷ []) (slot_rule 9 Clean stop ∷ [])
 
@@ -122,8 +127,9 @@ open_in_the_backlog :
 unfolding row origin_stops three_without_life_signs
 open_in_the_backlog = refl
 
--- Node 0 stops in slot 2, starts again, and takes part from slot 5 on. Of its three messages the first was sent before; the
--- second waited in the backlog, and is lost with it; the third is asked for at once, in slot 5.
+-- Node 0 stops in slot 2, starts again, and takes part from slot 5 on. Of its three messages the
+-- first was sent before; the second waited in the backlog, and is lost with it; the third is asked
+-- for at once, in slot 5.
 unfoldable origin_starts_again : ℕ → ScenarioParts
 origin_starts_again slots =
     record (scenario (record (three slots 1 2) { bound = 2 }) (send_tot 0 0 (1 ∷ []) ∷ send_tot 0 0 (2 ∷ []) ∷ send_tot 5 0 (3 ∷ []) ∷ [])
@@ -143,8 +149,8 @@ backlog_of_an_earlier_incarnation = refl
 
 -- ---- lag
 
--- Node 3 reads one slot behind the others. It alone gets the frame that accepts the message from the sender, which stops, and
--- reads it in time.
+-- Node 3 reads one slot behind the others. It alone gets the frame that accepts the message from
+-- the sender, which stops, and reads it in time.
 unfoldable late_reader : ScenarioParts
 late_reader =
     scenario (record { format = One; nodes = 4; lag = 1; omit = 1; errors = 2; bound = 122; cycle = 246; life = 140; silence = 264; confirm = 10; slots = 140 })

@@ -1,4 +1,5 @@
--- What TOTCAN does in a turn, after a past, newest first, where a message closes 3 slots after its place.
+-- What TOTCAN does in a turn, after a past, newest first, where a message closes 3 slots after its
+-- place.
 use Rattle.std.specs.Prelude.{ℕ, ◌≡◌, Bool, true, false, List, [], ◌∷◌, map, refl}
 use Rattle.cany_base.specs.declared.log_entry.LogEntry.{LogEntry}
 use Rattle.cany_base.specs.declared.message.Service.{Service}
@@ -60,7 +61,8 @@ accepted_in_the_next_slot : effects 1 2 (Got first_accept ∷ Got first_tot ∷ 
 unfolding turn_row
 accepted_in_the_next_slot = refl
 
--- In the last slot of the window a frame is in time. It is asked for, and withdrawn by the closing of the same turn.
+-- In the last slot of the window a frame is in time. It is asked for, and withdrawn by the closing
+-- of the same turn.
 accepted_in_the_last_slot :
     effects 1 2 (Got first_accept ∷ Idle ∷ Idle ∷ Got first_tot ∷ []) ≡ Ask first_accept ∷ Withdraw (identity_of first_accept) ∷ Enter (first_delivered 3) ∷ []
 unfolding turn_row
@@ -168,7 +170,8 @@ copy_before_the_place_does_not_count :
 unfolding turn_row
 copy_before_the_place_does_not_count = refl
 
--- a copy of a message that was delivered: the place moves, the count begins anew, and it is not delivered again
+-- a copy of a message that was delivered: the place moves, the count begins anew, and it is not
+-- delivered again
 copy_before_a_later_place_does_not_count :
     effects 1 2 (Got first_accept ∷ Got first_tot ∷ Got first_accept ∷ Got first_tot ∷ []) ≡ Ask first_accept ∷ []
 unfolding turn_row
@@ -257,8 +260,9 @@ copy_after_a_closing_is_held_back :
 unfolding turn_row
 copy_after_a_closing_is_held_back = refl
 
--- After its place moved the first message is not accepted any more, though it was delivered before. So it holds the second back,
--- until it closes in slot 5. No run has this: a data frame that was sent with success is not sent again.
+-- After its place moved the first message is not accepted any more, though it was delivered before.
+-- So it holds the second back, until it closes in slot 5. No run has this: a data frame that was
+-- sent with success is not sent again.
 moved_message_is_not_accepted :
     effects 1 2 (Got second_accept ∷ Got second_tot ∷ Got first_tot ∷ Got first_accept ∷ Got first_tot ∷ []) ≡ Ask second_accept ∷ []
 unfolding turn_row
@@ -287,7 +291,8 @@ closed_message_is_passed_over :
 unfolding turn_row
 closed_message_is_passed_over = refl
 
--- node 1 is the origin of the second message, and accepted it at its own transmission: the first one lets it go
+-- node 1 is the origin of the second message, and accepted it at its own transmission: the first
+-- one lets it go
 two_in_the_order_of_their_places :
     effects 1 1 (Got first_accept ∷ Sent second_tot ∷ Got first_tot ∷ []) ≡ Ask first_accept ∷ Enter (first_delivered 2) ∷ Enter (second_delivered 2) ∷ []
 unfolding turn_row
@@ -361,8 +366,9 @@ nor_of_another_service = refl
 
 -- ---- the order of a turn
 
--- In slot 4 the timer of a RELCAN message runs out, a TOTCAN message closes and lets another go, and node 0 sends two messages:
--- that of its backlog comes last, though it stands first in the file.
+-- In slot 4 the timer of a RELCAN message runs out, a TOTCAN message closes and lets another go,
+-- and node 0 sends two messages: that of its backlog comes last, though it stands first in the
+-- file.
 all_in_one_turn :
     turn_effects (scenario (record (three 9 1 2) { bound = 4; confirm = 2 }) (send_tot 4 0 (5 ∷ []) ∷ send 4 0 (6 ∷ []) ∷ []) []) 0
     (Idle ∷ Got (accept 2 0) ∷ Got (rel 1 1 (4 ∷ [])) ∷ Got third_tot ∷ Got second_tot ∷ [])

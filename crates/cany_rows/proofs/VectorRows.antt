@@ -1,5 +1,6 @@
--- Worked rows of reception history vectors: what a node sends and withdraws in a turn, and its vector after it. Cycles have 8 slots and end
--- in their slots 3, so cycle 1 starts in slot 8 and ends in slot 11.
+-- Worked rows of reception history vectors: what a node sends and withdraws in a turn, and its
+-- vector after it. Cycles have 8 slots and end in their slots 3, so cycle 1 starts in slot 8 and
+-- ends in slot 11.
 use Rattle.std.specs.Prelude.{ℕ, ◌≡◌, true, false, List, [], ◌∷◌, ◌++◌, Option, Some, None, map, replicate, refl}
 use Rattle.cany_base.specs.declared.format.Format.TheVariants.{One, Two}
 use Rattle.cany_base.specs.declared.notice.NoticeKind.{NoticeKind}
@@ -32,7 +33,8 @@ unfoldable after : ℕ → ℕ → List NoticeKind → Exchanged
 unfolding report
 after omit members past = both (exchange_effects (site omit members) 0 past) (knowledge_of (site omit members) 0 past).vector
 
--- the turn of the last of these notices, read from slot 8 on, where one Partial slot may come; and what is done alone
+-- the turn of the last of these notices, read from slot 8 on, where one Partial slot may come; and
+-- what is done alone
 unfoldable turn : ℕ → List NoticeKind → Exchanged
 unfolding after
 turn members notices = after 1 members (read 8 notices)
@@ -86,7 +88,8 @@ parts_of_a_cycle = refl
 
 -- ---- the start
 
--- A member sends its members as the cycle starts, and keeps them as its vector until the cycle ends. Nothing starts in slot 0.
+-- A member sends its members as the cycle starts, and keeps them as its vector until the cycle
+-- ends. Nothing starts in slot 0.
 member_starts :
     in_slots 7 Idle (0 ∷ 3 ∷ 7 ∷ 8 ∷ 9 ∷ 10 ∷ 11 ∷ 12 ∷ 15 ∷ 16 ∷ [])
     ≡ nothing None ∷ nothing None ∷ nothing None ∷ both (sends 7) (Some (set 7)) ∷ nothing (Some (set 7)) ∷ nothing (Some (set 7)) ∷ both withdraws None
@@ -115,12 +118,14 @@ vectors_are_met :
 unfolding vector_row
 vectors_are_met = refl
 
--- One that takes nothing away is not sent again. What the node itself sent is not met, and neither is an error.
+-- One that takes nothing away is not sent again. What the node itself sent is not met, and neither
+-- is an error.
 vector_stays : map (λ notice. turn 7 (Idle ∷ notice ∷ [])) (got 1 7 ∷ got 1 15 ∷ sent 3 ∷ Idle ∷ Bad ∷ []) ≡ replicate 5 (nothing (Some (set 7)))
 unfolding vector_row
 vector_stays = refl
 
--- Of the slots of a cycle those after its start count up to its end. In the slot of the end the vector is met, sent and withdrawn, and given up.
+-- Of the slots of a cycle those after its start count up to its end. In the slot of the end the
+-- vector is met, sent and withdrawn, and given up.
 slots_in_which_vectors_count :
     in_slots 7 (got 1 3) (7 ∷ 8 ∷ 9 ∷ 10 ∷ 11 ∷ 12 ∷ 15 ∷ [])
     ≡ nothing None ∷ both (sends 7) (Some (set 7)) ∷ both (sends 3) (Some (set 3)) ∷ both (sends 3) (Some (set 3)) ∷ both (sends 3 ++ withdraws) None
@@ -150,7 +155,8 @@ vectors_by_class = refl
 
 -- ---- a node that is no member
 
--- At the first vector that it gets it takes the set of all nodes of the bus, and meets this: it has had none, so it is new.
+-- At the first vector that it gets it takes the set of all nodes of the bus, and meets this: it has
+-- had none, so it is new.
 non_member_takes_a_vector :
     map (turn 6) ((Idle ∷ got 1 7 ∷ []) ∷ (Idle ∷ got 1 31 ∷ []) ∷ (Idle ∷ got 1 6 ∷ []) ∷ (Idle ∷ Idle ∷ Idle ∷ got 1 6 ∷ []) ∷ [])
     ≡ both (sends 7) (Some (set 7)) ∷ both (sends 7) (Some (set 7)) ∷ both (sends 6) (Some (set 6)) ∷ both (sends 6 ++ withdraws) None ∷ []
@@ -190,7 +196,8 @@ copies_of_this_cycle : map (λ cycle. does 1 7 (Idle ∷ Got (rha 1 cycle 7) ∷
 unfolding vector_row
 copies_of_this_cycle = refl
 
--- By the node's own transmission it is covered too, of just this vector in this cycle. It is seen at a copy, not as the node reads that it has sent.
+-- By the node's own transmission it is covered too, of just this vector in this cycle. It is seen
+-- at a copy, not as the node reads that it has sent.
 covered_by_own_transmission :
     map (does 1 7)
     ((Idle ∷ sent 7 ∷ []) ∷ (Idle ∷ sent 7 ∷ got 1 7 ∷ []) ∷ (Idle ∷ sent 7 ∷ got 1 3 ∷ []) ∷ (Idle ∷ Sent (rha 0 0 7) ∷ got 1 7 ∷ [])
@@ -199,7 +206,8 @@ covered_by_own_transmission :
 unfolding vector_row
 covered_by_own_transmission = refl
 
--- Where a cycle starts in slot 20 and ends in slot 25 there is room for longer stories: these notices are read from slot 21 on.
+-- Where a cycle starts in slot 20 and ends in slot 25 there is room for longer stories: these
+-- notices are read from slot 21 on.
 unfoldable story : ℕ → List NoticeKind → List Effect
 unfolding after
 story omit notices = exchange_effects (record (site omit 7) { params = record (short_cycles omit) { bound = 5; cycle = 20 } }) 0 (read 21 notices)

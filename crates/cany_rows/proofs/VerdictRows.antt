@@ -20,7 +20,8 @@ use Rattle.cany_rows.proofs.RowWords.{broken_run, carries, delivered, ed, first_
 not-below-zero : (k : ℕ) → k < 0 → ⊥
 not-below-zero k below = omega (arith, below)
 
--- a sender in the set of a Partial slot sees an error as any sender does: it is not a receiver that rejects
+-- a sender in the set of a Partial slot sees an error as any sender does: it is not a receiver that
+-- rejects
 partial_set_names_the_sender :
     report_of (scenario (three 5 1 2) one_message (slot_rule 1 (Partial (set 5)) 0 ∷ [])) ≡ whole_run (steps (codes ".012.012.012.012.012"))
     (carries 1 first_frame 1 2 (Partial (set 5)) 0 ∷ carries 2 first_frame 3 4 Clean 0 ∷ carries 3 first_frame 4 3 Clean 0 ∷ [])
@@ -36,7 +37,8 @@ counters_after_partial :
 unfolding row
 counters_after_partial = refl
 
--- a later success lowers the sender's counter by 1, and a good reception that of the node that rejected
+-- a later success lowers the sender's counter by 1, and a good reception that of the node that
+-- rejected
 counters_fall_again :
     insides (scenario (three 5 1 2) one_message (slot_rule 1 (Partial (set 5)) 0 ∷ [])) (steps (codes ".012.012.012.012.012"))
     ≡ record { transmit = 7; receive = 0; waiting = [] } ∷ record { transmit = 0; receive = 0; waiting = [] }
@@ -44,7 +46,8 @@ counters_fall_again :
 unfolding row
 counters_fall_again = refl
 
--- a Silent slot: the sender sees success although node 2 rejects, and the set does not touch the sender
+-- a Silent slot: the sender sees success although node 2 rejects, and the set does not touch the
+-- sender
 silent_set_names_the_sender :
     report_of (scenario (three 5 1 2) one_message (slot_rule 1 (Silent (set 5)) 0 ∷ [])) ≡ broken_run kind.Silent 1 (steps (codes ".012.012.012.012.012"))
     (carries 1 first_frame 1 2 (Silent (set 5)) 0 ∷ carries 2 first_frame 2 5 Clean 0 ∷ carries 3 first_frame 4 3 Clean 0 ∷ [])
@@ -60,7 +63,8 @@ counters_after_silent :
 unfolding row
 counters_after_silent = refl
 
--- Outside the hypothesis agreement fails: the sender is content, the only taker stops, and node 2 never gets the one_message.
+-- Outside the hypothesis agreement fails: the sender is content, the only taker stops, and node 2
+-- never gets the one_message.
 silent_omission_loses_a_message :
     report_of (scenario (three 3 1 2) one_message (slot_rule 1 (Silent (set 4)) 2 ∷ [])) ≡ broken_run kind.Silent 1 (steps (codes ".012.02.02"))
     (carries 1 first_frame 1 2 (Silent (set 4)) 2 ∷ [])
@@ -89,7 +93,8 @@ taker_stops :
 unfolding row
 taker_stops = refl
 
--- in an idle slot the verdict has no effect, the scripted stop acts, and a rule for an attempt of a frame does not
+-- in an idle slot the verdict has no effect, the scripted stop acts, and a rule for an attempt of a
+-- frame does not
 idle_slot_stops :
     report_of (scenario (three 3 0 0) [] (slot_rule 1 (Silent (set 6)) 4 ∷ frame_rule class.Ed 0 0 1 Lost 7 ∷ [])) ≡ whole_run (steps (codes ".012.01.01"))
     (idle 1 4 ∷ [])
@@ -98,8 +103,8 @@ idle_slot_stops :
 unfolding row
 idle_slot_stops = refl
 
--- A slot at the limits of the counters: node 0 sends, and nodes 1 and 2 reject. Only above 127 a node stops, and node 3, which
--- accepts, gets below again.
+-- A slot at the limits of the counters: node 0 sends, and nodes 1 and 2 reject. Only above 127 a
+-- node stops, and node 3, which accepts, gets below again.
 unfoldable counting : ℕ → ℕ → List FrameParts → NodeState
 counting transmit receive waiting = record { present = original; ended = []; unread = 0; waiting = waiting; transmit = transmit; receive = receive; stopped = None }
 
@@ -125,7 +130,8 @@ sender_stops_above_127 :
 unfolding row counting counted
 sender_stops_above_127 = refl
 
--- Of two frames of one identity with unequal bytes, which no run has, the least node's is carried, and the other node receives.
+-- Of two frames of one identity with unequal bytes, which no run has, the least node's is carried,
+-- and the other node receives.
 least_node_decides :
     (after_slot (script []) (record { trace = []; nodes = counting 0 0 [] ∷ counting 0 0 (ed 5 0 (9 ∷ []) ∷ []) ∷ counting 0 0 (ed 5 0 (7 ∷ []) ∷ []) ∷ [] }))
     ≡ record {
@@ -135,7 +141,8 @@ least_node_decides :
 unfolding row counting counted
 least_node_decides = refl
 
--- Eight senders in turn lose 16 slots each. The ninth node never sends, and stops by its receive counter at the 128th.
+-- Eight senders in turn lose 16 slots each. The ninth node never sends, and stops by its receive
+-- counter at the 128th.
 unfoldable lost_until : ℕ → List Rule
 lost_until zero = []
 lost_until (suc n) = slot_rule (n + 1) Lost 0 ∷ lost_until n

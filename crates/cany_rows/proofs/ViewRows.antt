@@ -1,5 +1,6 @@
--- Worked rows of views: asks to join and to leave, what a member starts a cycle with, and how a vector becomes the view. Cycles have 8 slots
--- and end in their slots 3, so cycle 1 starts in slot 8 and ends in slot 11.
+-- Worked rows of views: asks to join and to leave, what a member starts a cycle with, and how a
+-- vector becomes the view. Cycles have 8 slots and end in their slots 3, so cycle 1 starts in slot
+-- 8 and ends in slot 11.
 use Rattle.std.specs.Prelude.{ℕ, ◌+◌, ◌/◌, ◌≡◌, List, [], ◌∷◌, ◌++◌, Some, None, map, replicate, refl}
 use Rattle.cany_base.specs.declared.log_entry.LogEntry.TheVariants.{Failed, View}
 use Rattle.cany_base.specs.declared.message.NodeAsk.{NodeAsk}
@@ -49,7 +50,8 @@ view_row = tt
 
 -- ---- asks that are heard
 
--- Node 0 hears a frame of each class of another member, and of a node that is none. A node that is no member joins, and a member leaves.
+-- Node 0 hears a frame of each class of another member, and of a node that is none. A node that is
+-- no member joins, and a member leaves.
 asks_by_class :
     map (λ node. map (λ c. let st = after_ask (Got (plain c node 0)) (knowledge 3 0 0 0) in st.joiners.bits ∷ st.leavers.bits ∷ []) classes) (1 ∷ 2 ∷ [])
     ≡ (let none : List ℕ = 0 ∷ 0 ∷ [] in
@@ -58,7 +60,8 @@ asks_by_class :
 unfolding view_row
 asks_by_class = refl
 
--- of its own asks, as it reads that it has sent them, that to leave counts where it is a member, and that to join does not
+-- of its own asks, as it reads that it has sent them, that to leave counts where it is a member,
+-- and that to join does not
 own_asks :
     map (λ members. map (λ f. of_knowledge (after_ask (Sent f) (knowledge members 0 0 0))) (join 0 0 ∷ leave 0 0 ∷ els 0 0 ∷ [])) (3 ∷ 2 ∷ [])
     ≡ (known 3 0 0 0 ∷ known 3 0 0 1 ∷ known 3 0 0 0 ∷ []) ∷ replicate 3 (known 2 0 0 0) ∷ []
@@ -79,7 +82,8 @@ non_member_hears_asks = refl
 
 -- ---- the start of a cycle
 
--- what node 0 starts with: its members that have not failed and do not leave, and those that join, be they failed or not
+-- what node 0 starts with: its members that have not failed and do not leave, and those that join,
+-- be they failed or not
 starts_with :
     map (start_of 0) (knowledge 7 0 0 0 ∷ knowledge 7 2 0 0 ∷ knowledge 7 0 0 2 ∷ knowledge 7 0 8 0 ∷ knowledge 7 10 8 4 ∷ knowledge 7 1 0 0 ∷ knowledge 7 0 0 1 ∷ knowledge 7 7 0 0 ∷ [])
     ≡ map (λ bits. Some (set bits)) (7 ∷ 5 ∷ 5 ∷ 15 ∷ 9 ∷ 6 ∷ 6 ∷ 0 ∷ [])
@@ -98,7 +102,8 @@ notice_of_the_start :
 unfolding view_row
 notice_of_the_start = refl
 
--- one of a later slot does not change the vector any more, and counts in the next cycle, which starts in slot 16
+-- one of a later slot does not change the vector any more, and counts in the next cycle, which
+-- starts in slot 16
 notice_after_the_start :
     map (λ notice. let past = read 8 (Idle ∷ notice ∷ []) in ((knowledge_of (site 7) 0 past).vector ∷ start_of 0 (knowledge_of (site 7) 0 (idle_slots 6 ++ past)) ∷ []))
     (Got (join 3 1) ∷ Got (leave 1 1) ∷ Got (fda 2 1) ∷ [])
@@ -108,7 +113,8 @@ notice_after_the_start = refl
 
 -- ---- the view
 
--- The vector becomes the members. Those of it join no more, and of those that leave the ones in it stay. The newly admitted have not failed.
+-- The vector becomes the members. Those of it join no more, and of those that leave the ones in it
+-- stay. The newly admitted have not failed.
 vector_becomes_the_view :
     map (λ bits. of_knowledge (with_ended 0 11 (Some (set bits)) (knowledge 7 10 24 6))) (7 ∷ 11 ∷ 5 ∷ 24 ∷ 0 ∷ [])
     ∷ map (λ v. of_knowledge (with_ended 0 11 v (knowledge 7 10 24 6))) (None ∷ []) ∷ []
@@ -116,7 +122,8 @@ vector_becomes_the_view :
 unfolding view_row
 vector_becomes_the_view = refl
 
--- The vector is given up. The newly admitted show life in the slot of the end, and so does the node itself if it is one of them.
+-- The vector is given up. The newly admitted show life in the slot of the end, and so does the node
+-- itself if it is one of them.
 unfoldable lives : Knowledge → List ℕ
 lives st = st.last ∷ map st.shown (0 ∷ 1 ∷ 2 ∷ [])
 
@@ -130,7 +137,8 @@ vector_is_given_up : (with_ended 0 11 (Some (set 7)) (record (knowledge 7 0 0 0)
 unfolding view_row
 vector_is_given_up = refl
 
--- Asks of the very slot of the end: one to join is taken back by a vector that has the node, and one to leave by a vector that has it not.
+-- Asks of the very slot of the end: one to join is taken back by a vector that has the node, and
+-- one to leave by a vector that has it not.
 asks_in_the_slot_of_the_end :
     map (knows 7)
     ((Got (join 3 1) ∷ Idle ∷ Idle ∷ Got (join 4 1) ∷ []) ∷ (Idle ∷ Got (rha 1 1 3) ∷ Idle ∷ Got (leave 2 1) ∷ [])
@@ -144,7 +152,8 @@ joiner_asks_in_the_slot_of_its_view : knows 7 (Got (join 3 1) ∷ Idle ∷ Idle 
 unfolding view_row
 joiner_asks_in_the_slot_of_its_view = refl
 
--- A failure that is told in the slot of the end, or before, is forgotten of a node that is newly admitted, and not of a member.
+-- A failure that is told in the slot of the end, or before, is forgotten of a node that is newly
+-- admitted, and not of a member.
 failures_at_the_end :
     map (knows 7)
     ((Got (join 3 1) ∷ Idle ∷ Idle ∷ Got (fda 3 1) ∷ []) ∷ (Got (join 3 1) ∷ Got (fda 3 1) ∷ Idle ∷ Idle ∷ [])
@@ -190,7 +199,8 @@ entered_by_the_vector :
 unfolding view_row at_the_end enters
 entered_by_the_vector = refl
 
--- one that is not in it enters nothing, be it a member or not; a node that was none enters the view that has it
+-- one that is not in it enters nothing, be it a member or not; a node that was none enters the view
+-- that has it
 who_enters :
     at_the_end 7 [] [] (Idle ∷ Got (rha 1 1 6) ∷ Idle ∷ Idle ∷ []) ∷ at_the_end 6 [] [] (Idle ∷ Got (rha 1 1 6) ∷ Idle ∷ Idle ∷ [])
     ∷ at_the_end 6 [] [] (Idle ∷ Got (rha 1 1 7) ∷ Idle ∷ Idle ∷ []) ∷ at_the_end 6 [] [] (Idle ∷ Idle ∷ Idle ∷ Idle ∷ []) ∷ []
@@ -198,7 +208,8 @@ who_enters :
 unfolding view_row at_the_end enters
 who_enters = refl
 
--- Who is in the view withdraws its asks to join, of whatever number, and who is not in it those to leave. Without a vector nothing is withdrawn.
+-- Who is in the view withdraws its asks to join, of whatever number, and who is not in it those to
+-- leave. Without a vector nothing is withdrawn.
 unfoldable withdrawn : (ℕ → ℕ → Effect) → List Effect
 withdrawn ask = ask 0 0 ∷ ask 0 1 ∷ ask 0 3 ∷ []
 
@@ -241,7 +252,8 @@ scripted_leave :
 unfolding view_row asked
 scripted_leave = refl
 
--- the number is that of the cycle, from 0 on; the ask of another node is not made; two asks of a slot are made twice
+-- the number is that of the cycle, from 0 on; the ask of another node is not made; two asks of a
+-- slot are made twice
 scripted_asks_of_slots :
     map (λ slot. asked 6 (asks_at slot 1 ∷ asks_at slot 0 ∷ asks_at slot 0 ∷ []) [] (idle_slots (slot + 1))) (0 ∷ 7 ∷ 8 ∷ 99 ∷ [])
     ≡ map (λ cycle. replicate 2 (Ask (join 0 cycle))) (0 ∷ 0 ∷ 1 ∷ 12 ∷ [])
@@ -265,15 +277,16 @@ scripted_asks_of_an_incarnation = refl
 
 -- ---- a whole turn
 
--- The newly admitted node shows life its life interval after the slot of the end, and has been silent for no time then.
+-- The newly admitted node shows life its life interval after the slot of the end, and has been
+-- silent for no time then.
 life_after_admission :
     map (λ slots. turn_effects (record (site 6) { params = record (short_cycles 1) { cycle = 40; life = 4 } }) 0 (idle_slots slots ++ read 41 (Got (rha 1 1 7) ∷ Idle ∷ Idle ∷ [])))
     (3 ∷ 4 ∷ 5 ∷ []) ≡ [] ∷ (Ask (els 0 0) ∷ []) ∷ [] ∷ []
 unfolding view_row
 life_after_admission = refl
 
--- In slot 11 node 0 gets a vector; node 2 is silent; the cycle ends with a view that has node 0; its life sign is due; a send, a join and two leaves
--- are scripted, and a TOTCAN message.
+-- In slot 11 node 0 gets a vector; node 2 is silent; the cycle ends with a view that has node 0;
+-- its life sign is due; a send, a join and two leaves are scripted, and a TOTCAN message.
 order_of_the_turn_of_the_end :
     turn_effects
     (with_asks (asks_at 11 0 ∷ asks_at 3 0 ∷ []) (asks_at 11 0 ∷ asks_at 11 0 ∷ [])
@@ -284,7 +297,8 @@ order_of_the_turn_of_the_end :
 unfolding view_row
 order_of_the_turn_of_the_end = refl
 
--- In slot 16, in which a cycle starts, node 2 is found: it is not in the vector with which node 0 starts.
+-- In slot 16, in which a cycle starts, node 2 is found: it is not in the vector with which node 0
+-- starts.
 order_of_the_turn_of_the_start :
     turn_effects (with_asks (asks_at 16 0 ∷ []) (asks_at 16 0 ∷ []) (of_members 5 (scenario (record (short_cycles 1) { life = 16; silence = 16 }) [] []))) 0 (idle_slots 17)
     ≡ Enter (Failed 16 2 2) ∷ Ask (fda 2 2) ∷ Ask (rha 0 2 1) ∷ Ask (els 0 0) ∷ Ask (leave 0 2) ∷ []

@@ -47,7 +47,8 @@ a_whole_text : scenario_of_lines (
 unfolding scenario_of_lines send frame_rule slot_rule
 a_whole_text = refl
 
--- bytes that are no text, and texts that are no document: without a value, with a key that stands twice, and with an integer past 64 bits
+-- bytes that are no text, and texts that are no document: without a value, with a key that stands
+-- twice, and with an integer past 64 bits
 no_text : fault_in_lines ((255 ∷ []) ∷ []) ≡ Some NotText
 unfolding fault_in_lines
 no_text = refl

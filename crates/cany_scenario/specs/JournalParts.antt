@@ -15,7 +15,8 @@ use Rattle.cany_scenario.specs.Arrays.{after}
 abbrev pub are_texts : List Value → Bool
 are_texts values = list_all (λ value. is_some (as_str (view value))) values
 
--- the steps of the texts that the items are, one after another, of which the first begins at this place of the joined texts
+-- the steps of the texts that the items are, one after another, of which the first begins at this
+-- place of the joined texts
 abbrev pub texts_in_order : Format → Position → ℕ → Items → Read (List Step)
 texts_in_order format at place no_items = Ok []
 texts_in_order format at place (item value rest) = do

@@ -1,5 +1,6 @@
--- Where each message that was asked for was sent long ago, and the newest turn asked for none that was sent, all of the backlog was asked for: else the newest
--- turn would have asked for the next one.
+-- Where each message that was asked for was sent long ago, and the newest turn asked for none that
+-- was sent, all of the backlog was asked for: else the newest turn would have asked for the next
+-- one.
 use Rattle.std.proofs.Common.{◌≡◌, ℕ, zero, suc, ◌+◌, ◌<◌, ◌≤◌, inl, inr, Bool, true, false, not, List, [], ◌∷◌, length, take, Option, Some, None, refl, ap, sym, ◌∙◌, arith}
 use Rattle.std.specs.List.{last_or, list_all}
 use Rattle.std.specs.Option.{option_map_or}

@@ -1,5 +1,5 @@
--- What is kept of the backlog of each running node: a message that was asked for waits or was sent, what waits or was sent was asked for, and the newest turn
--- asked for none that was sent before.
+-- What is kept of the backlog of each running node: a message that was asked for waits or was sent,
+-- what waits or was sent was asked for, and the newest turn asked for none that was sent before.
 use Rattle.std.proofs.Common.{◌≡◌, ℕ, zero, suc, ◌<◌, ◌≤◌, ◌⊎◌, inl, inr, true, List, [], ◌∷◌, length, Option, Some, None, refl, ap, sym, ◌∙◌, subst, arith}
 use Rattle.std.specs.List.{AllByRecursion}
 use Rattle.std.proofs.lemmas.Bool.{cases_lt, false≢true}

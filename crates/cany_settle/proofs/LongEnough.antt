@@ -1,4 +1,5 @@
--- Each whole run within the fault hypothesis that goes on long enough after its last load has every message settled.
+-- Each whole run within the fault hypothesis that goes on long enough after its last load has every
+-- message settled.
 use Rattle.std.proofs.Common.{◌≡◌, ℕ, zero, suc, ◌+◌, ◌*◌, ◌<◌, ◌≤◌, ◌||◌, inl, inr, Bool, true, if◌then◌else◌, nat_le, nat_lt, List, [], ◌∷◌, length, ap, arith}
 use Rattle.std.proofs.lemmas.Bool.{and_parts, cond_both, leb-true, or_left}
 use Rattle.cany_base.specs.declared.message.SendAsk.{SendAsk}

@@ -1,4 +1,5 @@
--- From an idle slot on that comes long after the last load: no running node waits with a frame of a message, and each has asked for all of its backlog.
+-- From an idle slot on that comes long after the last load: no running node waits with a frame of a
+-- message, and each has asked for all of its backlog.
 use Rattle.std.proofs.Common.{◌≡◌, ℕ, zero, suc, ◌+◌, ◌-◌, ◌<◌, ◌≤◌, inl, inr, true, false, List, [], ◌∷◌, length, drop, take, slice_index_or, None, refl, ap, sym, ◌∙◌, subst, arith, length-drop, nat_lt}
 use Rattle.std.specs.List.{AllByRecursion, list_any}
 use Rattle.std.proofs.lemmas.Bool.{cond_both, false_from_ne_true, false≢true, ltb-false, ltb-true, or_right}
@@ -81,7 +82,8 @@ low_at last i inc T q numbered no_lower h =
 
 -- ---- at rest
 
--- Of a running node whose incarnation follows the scenario and sees the trace T, of which it has not read the u newest slots, and that waits with W.
+-- Of a running node whose incarnation follows the scenario and sees the trace T, of which it has
+-- not read the u newest slots, and that waits with W.
 pub record IsResting (scenario : ScenarioParts) (i last : ℕ) (T : List SlotNote) (u : ℕ) (W : List FrameParts) : Type 0 where
   pub read : last + settling_time scenario.params + u < length T
   pub waits : AllByRecursion IsOther W
@@ -97,7 +99,8 @@ module _ (scenario : ScenarioParts) (i last : ℕ) (inc : Incarnation) (T : List
   abbrev p : Parameters
   p = scenario.params
 
-  -- of notices that lie so far back from the end that all of them come later, none is of a lower class
+  -- of notices that lie so far back from the end that all of them come later, none is of a lower
+  -- class
   pub none_low : (slots u : ℕ) → last + slots + u < length T → list_any is_low (take slots (past i S u)) ≡ false
   none_low slots u late = false_from_ne_true (list_any is_low (take slots (past i S u))) (λ h.
       let q = any_take is_low i slots u S h in

@@ -1,5 +1,5 @@
--- Every running node of a run is at rest once an idle slot ran long after the last load; and of the last `bound` slots of a run one was idle, if its last load lies
--- before them.
+-- Every running node of a run is at rest once an idle slot ran long after the last load; and of the
+-- last `bound` slots of a run one was idle, if its last load lies before them.
 use Rattle.std.proofs.Common.{◌≡◌, ℕ, zero, suc, ◌+◌, ◌-◌, ◌<◌, ◌≤◌, inl, inr, true, not, List, [], ◌∷◌, length, Option, Some, None, refl, ap, sym, ◌∙◌, subst, arith, length-append}
 use Rattle.std.specs.List.{flat_map, list_any}
 use Rattle.std.proofs.lemmas.Bool.{both_ways, cases_Bool, cases_eq, not_from_false}
@@ -36,7 +36,8 @@ use Rattle.cany_settle.proofs.Turns.{IsOther}
 
 -- ---- an idle slot
 
--- a slot without a frame, so long after the last load that all running nodes had read everything up to where nothing more comes of it
+-- a slot without a frame, so long after the last load that all running nodes had read everything up
+-- to where nothing more comes of it
 pub record IdleSlot (p : Parameters) (last : ℕ) (T : List SlotNote) : Type 0 where
   pub age : ℕ
   pub there : age < length T

@@ -16,7 +16,8 @@ use Rattle.cany_settle.specs.LastEvent.{greatest, last_slot}
 use Rattle.cany_settle.specs.TailText.{claim_line, ending_lines, enough_line, lengths_lines, number_line, tail_lines, tail_text, word_line}
 use Rattle.cany_text.specs.ReportLines.{break_name, hypothesis_line, line_of}
 
--- three nodes at lag 0, with everything else by default: all are members, or nobody is, so that no life sign is sent
+-- three nodes at lag 0, with everything else by default: all are members, or nobody is, so that no
+-- life sign is sent
 unfoldable scenario : ℕ → ℕ → List SendAsk → List Rule → List NodeAsk → ScenarioParts
 unfolding scenario_of
 scenario slots members sends rules restarts = scenario_of (default_parameters 3 slots) members sends rules restarts
@@ -26,7 +27,8 @@ unfoldable one_message : ℕ → ScenarioParts
 unfolding scenario send
 one_message slots = scenario slots 7 (send Ed 0 0 (1 ∷ []) ∷ []) [] []
 
--- a TOTCAN message of node 1 whose first copy does not reach node 2, and one of node 0 just after it
+-- a TOTCAN message of node 1 whose first copy does not reach node 2, and one of node 0 just after
+-- it
 unfoldable late_copy : ℕ → ScenarioParts
 unfolding scenario send slot_rule
 late_copy slots =
@@ -72,8 +74,8 @@ unfoldable backlog_of_five : ℕ → ScenarioParts
 unfolding scenario send
 backlog_of_five slots = scenario slots 0 (replicate 5 (send Tot 0 0 [])) [] []
 
--- A run that goes on for the tail after the last ask, where nothing went wrong, and that has an open message: the last frame of a lower class
--- came later.
+-- A run that goes on for the tail after the last ask, where nothing went wrong, and that has an
+-- open message: the last frame of a lower class came later.
 late_frames_are_events : text_of (backlog_of_five 149) ≡ concat (
     codes "tail 144\n" ∷ codes "last 112\n" ∷ codes "slots 149\n" ∷ codes "short 256\n" ∷ codes "settled 4 open 1\n" ∷ codes "hypothesis within\n" ∷ codes "end\n" ∷ [])
 unfolding text_of backlog_of_five

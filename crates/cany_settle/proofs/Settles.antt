@@ -147,7 +147,8 @@ at_once scenario m is begun past read once =
     (and_from (is_sent_at_once m.service) (nat_lt m.slot (length past)) once (lt-ltb m.slot (length past) read))
     (not_from_false (nat_lt m.slot scenario.from) (le-ltb m.slot scenario.from begun))
 
--- the origin, if it takes part since the scripted slot, has asked: it has read all slots, and has asked for all of its backlog
+-- the origin, if it takes part since the scripted slot, has asked: it has read all slots, and has
+-- asked for all of its backlog
 asked_by : (scenario : ScenarioParts) (m : Message) → IsOneOf (messages_of scenario.sends) m → scenario.from ≤ m.slot → (past : List NoticeKind)
     → m.slot < length past → AllAsked scenario m.origin past → (by : Service) → m.service ≡ by → has_asked scenario m m.origin past ≡ true
 asked_by scenario m is begun past read all Tot tot =

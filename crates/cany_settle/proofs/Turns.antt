@@ -1,5 +1,6 @@
--- A turn in which no frame of a message is asked for: its notice, the one that may run out a timer, and those within which a message can be accepted carry no
--- frame of the lower classes, nothing is scripted to be sent in it, and all of the backlog was asked for.
+-- A turn in which no frame of a message is asked for: its notice, the one that may run out a timer,
+-- and those within which a message can be accepted carry no frame of the lower classes, nothing is
+-- scripted to be sent in it, and all of the backlog was asked for.
 use Rattle.std.proofs.Common.{◌≡◌, ℕ, ◌<◌, ◌&&◌, ◌==◌, inl, inr, Bool, true, false, not, List, [], ◌∷◌, ◌++◌, filter, map, length, take, drop, slice_index_or, Option, Some, None, refl, ap, sym, ◌∙◌, arith, append-nil, cond}
 use Rattle.std.specs.List.{AllByRecursion, list_any}
 use Rattle.std.proofs.lemmas.Bool.{and_parts, both_ways, cond_both, eqb-true, false_from_ne_true, false≢true, or_cases, or_left, or_right}
@@ -68,7 +69,8 @@ not_lower f c lower top same =
 abbrev Others : List Effect → Type 0
 Others effects = AllByRecursion (AsksOnly IsOther) effects
 
--- what is called for at a frame of one of the lower classes alone, where the frame is of none of them
+-- what is called for at a frame of one of the lower classes alone, where the frame is of none of
+-- them
 lower_others : (f : FrameParts) (c : Class) (effects : List Effect) → is_top c ≡ false → not (is_top f.class) ≡ false → Others (cond (same_class f.class c) effects [])
 lower_others f c effects lower top =
     cond_both (same_class f.class c) effects [] Others (λ same. absurd (not_lower f c lower top same)) (λ _. tt)

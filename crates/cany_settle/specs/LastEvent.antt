@@ -1,5 +1,5 @@
--- The last event of a run: after it nobody is asked to send anything new, no sender sees an error, no node stops, and all that
--- is carried are frames of the classes that win over all others.
+-- The last event of a run: after it nobody is asked to send anything new, no sender sees an error,
+-- no node stops, and all that is carried are frames of the classes that win over all others.
 use Rattle.std.specs.Prelude.{ℕ, ◌||◌, Bool, not, nat_lt, if◌then◌else◌, List, [], ◌∷◌, map}
 use Rattle.cany_base.specs.declared.message.NodeAsk.{NodeAsk}
 use Rattle.cany_base.specs.declared.message.SendAsk.{SendAsk}
@@ -45,7 +45,7 @@ ask_slots asks = map (λ ask. ask.slot) asks
 abbrev pub last_ask : ScenarioParts → ℕ
 last_ask scenario = greater (greatest (send_slots scenario.sends)) (greater (greatest (ask_slots scenario.joins)) (greatest (ask_slots scenario.leaves)))
 
--- The last event of a run: the last scripted ask, and the last slot that ended in a stop, met an error, or carried a frame of
--- another class than those that win over all others.
+-- The last event of a run: the last scripted ask, and the last slot that ended in a stop, met an
+-- error, or carried a frame of another class than those that win over all others.
 abbrev pub last_event : ScenarioParts → RunState → ℕ
 last_event scenario s = greater (last_ask scenario) (last_slot is_event s.trace)

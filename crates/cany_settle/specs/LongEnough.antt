@@ -1,4 +1,5 @@
--- When a run is long enough: its last event lies so far before its end that nothing more is to come of any message.
+-- When a run is long enough: its last event lies so far before its end that nothing more is to come
+-- of any message.
 use Rattle.std.specs.Prelude.{◌≡◌, ℕ, ◌+◌, ◌*◌, ◌≤◌, true, Contains}
 use Rattle.cany_base.specs.Params.{Parameters}
 use Rattle.cany_base.specs.Scenario.{ScenarioParts}
@@ -24,15 +25,17 @@ AllSettled scenario s = (m : Message) → Contains (messages_of scenario.sends) 
 
 -- ---- what it takes
 
--- The last load: the last scripted send, and the last slot that carried a frame of a lower class. Stops and errors need not be
--- over.
+-- The last load: the last scripted send, and the last slot that carried a frame of a lower class.
+-- Stops and errors need not be over.
 abbrev pub last_load : ScenarioParts → RunState → ℕ
 last_load scenario s = greater (greatest (send_slots scenario.sends)) (last_slot is_lower_slot s.trace)
 
--- the slots in which a message can still come to something after the last load: until then a timer runs out, or the next message of a backlog is asked for
+-- the slots in which a message can still come to something after the last load: until then a timer
+-- runs out, or the next message of a backlog is asked for
 abbrev pub settling_time : Parameters → ℕ
 settling_time p = greater p.confirm (p.bound + p.lag)
 
--- after that, what is asked for is asked for at most `lag` slots later, and of `bound` slots one is quiet
+-- after that, what is asked for is asked for at most `lag` slots later, and of `bound` slots one is
+-- quiet
 abbrev pub short_tail : Parameters → ℕ
 short_tail p = settling_time p + (p.bound + p.lag) + 1

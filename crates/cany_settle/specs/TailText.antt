@@ -1,5 +1,5 @@
--- The text of the command: the tail, the last event and the length of a run, and whether it was long enough; how many messages
--- are settled, and whether the run is within the fault hypothesis.
+-- The text of the command: the tail, the last event and the length of a run, and whether it was
+-- long enough; how many messages are settled, and whether the run is within the fault hypothesis.
 use Rattle.std.specs.Prelude.{ℕ, Bool, true, false, nat_le, if◌then◌else◌, List, [], ◌∷◌, ◌++◌, codes, decimal}
 use Rattle.std.specs.List.{concat}
 use Rattle.cany_base.specs.declared.message.NodeAsk.{NodeAsk}

@@ -1,4 +1,5 @@
--- What the search for the first item of which a test holds finds. The test is told the items before, the newest first.
+-- What the search for the first item of which a test holds finds. The test is told the items
+-- before, the newest first.
 use Rattle.std.proofs.Common.{◌≡◌, ℕ, zero, suc, ◌<◌, ◌+◌, Bool, true, false, ◌||◌, List, [], ◌∷◌, ◌++◌, length, take, get_or, Option, Some, None, refl, ap, sym, ◌∙◌, append_assoc, arith}
 use Rattle.std.specs.Prelude.{if◌then◌else◌, count_by, reverse}
 use Rattle.std.specs.List.{list_any}

@@ -23,7 +23,8 @@ use Rattle.cany_text.proofs.ReadOffText.{Lacks, decimals_lack, fields_same, join
 abbrev pub AreBytes : List ℕ → Type 0
 AreBytes bytes = AllByRecursion (λ b. b < 256) bytes
 
--- the numbers of the entry are short enough for a line, its payload is bytes, and its set has nodes alone that there can be
+-- the numbers of the entry are short enough for a line, its payload is bytes, and its set has nodes
+-- alone that there can be
 abbrev pub IsWritable : LogEntry → Type 0
 IsWritable (Deliver slot by msg payload) = (slot < 2 ^ 64) × (msg.origin < 2 ^ 64) × (msg.seq < 2 ^ 64) × AreBytes payload
 IsWritable (Failed slot node cycle) = (slot < 2 ^ 64) × (node < 2 ^ 64) × (cycle < 2 ^ 64)

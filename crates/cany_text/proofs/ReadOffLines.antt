@@ -1,4 +1,5 @@
--- The lines of a report: each ends with its only line feed, and its first byte tells of what kind it is.
+-- The lines of a report: each ends with its only line feed, and its first byte tells of what kind
+-- it is.
 use Rattle.std.proofs.Common.{◌≡◌, ℕ, ◌/◌, ◌%◌, ◌<◌, ◌==◌, ◌||◌, Bool, true, false, not, List, [], ◌∷◌, ◌++◌, map, filter, Option, Some, None, refl, arith}
 use Rattle.std.specs.Prelude.{if◌then◌else◌, slice_index, codes, decimal}
 use Rattle.std.specs.List.{AllByRecursion, flat_map}

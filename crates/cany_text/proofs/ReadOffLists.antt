@@ -9,7 +9,8 @@ use Rattle.cany_model.proofs.Among.{Among, Each-of}
 pub cons_same : {X : Type 0} (x y : X) (xs ys : List X) → x ∷ xs ≡ y ∷ ys → (x ≡ y) × (xs ≡ ys)
 cons_same x y xs ys e = (cc, cc)
 
--- lists whose elements are told apart by what a function makes of them are told apart by the lists that it makes
+-- lists whose elements are told apart by what a function makes of them are told apart by the lists
+-- that it makes
 pub lists_same : {X Y : Type 0} (f : X → Y) (P : X → Type 0) → ((x y : X) → P x → P y → f x ≡ f y → x ≡ y) → (xs ys : List X)
     → AllByRecursion P xs → AllByRecursion P ys → map f xs ≡ map f ys → xs ≡ ys
 lists_same f P one [] [] a b e = refl

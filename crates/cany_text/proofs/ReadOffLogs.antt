@@ -329,7 +329,8 @@ log_text_same a s b t short brief same i inc below under within there = by_optio
     by_options (Some ended) p e f = let w = found a s b t short brief same i inc ended below within e in w.lines
         ∙ ap (log_text b t i) (sym w.is ∙ f)
 
--- Where the lines of the nodes are equal, each node has as many incarnations, and each incarnation a log with equal lines.
+-- Where the lines of the nodes are equal, each node has as many incarnations, and each incarnation
+-- a log with equal lines.
 pub record HaveSameLogLines (a : ScenarioParts) (s : RunState) (b : ScenarioParts) (t : RunState) : Type 0 where
   pub incarnations : (i : ℕ) → i < a.params.nodes → (node_at s.nodes i).present.number ≡ (node_at t.nodes i).present.number
   pub logs : (i inc : ℕ) → i < a.params.nodes → inc ≤ (node_at s.nodes i).present.number

@@ -1,4 +1,5 @@
--- The numbers that a report of a legal scenario writes are short: those of incarnations, and those in the entries of the logs.
+-- The numbers that a report of a legal scenario writes are short: those of incarnations, and those
+-- in the entries of the logs.
 use Rattle.std.proofs.Common.{◌≡◌, ℕ, zero, suc, ◌-◌, ◌*◌, ◌/◌, ◌^◌, ◌<◌, ◌≤◌, ◌==◌, inl, inr, false, List, [], ◌∷◌, map, drop, length, Contains, Option, Some, None, ap, sym, ◌∙◌, subst, arith, div-mul-le_self, length-drop}
 use Rattle.std.specs.Prelude.{All}
 use Rattle.std.specs.List.{AllByRecursion}
@@ -54,7 +55,8 @@ use Rattle.cany_text.proofs.ReadOffLogs.{HasShortNumbers, ended_log}
 
 -- ---- the numbers of incarnations
 
--- A node restarts once a slot at most: one that is stopped came to its incarnation in an earlier slot than the last one.
+-- A node restarts once a slot at most: one that is stopped came to its incarnation in an earlier
+-- slot than the last one.
 abbrev HasFewIncarnations : ℕ → NodeState → Type 0
 HasFewIncarnations slots node = (node.present.number ≤ slots) × (runs node ≡ false → node.present.number < slots)
 

@@ -1,4 +1,5 @@
--- Texts that lack a byte, and that a text is read off one way where it is parted by a byte that its parts lack.
+-- Texts that lack a byte, and that a text is read off one way where it is parted by a byte that its
+-- parts lack.
 use Rattle.std.proofs.Common.{◌≡◌, ℕ, zero, suc, ◌/◌, ◌%◌, ◌<◌, ◌≢◌, ◌==◌, Bool, true, false, not, List, [], ◌∷◌, ◌++◌, map, refl, ap, sym, ◌∙◌, subst, arith, append_assoc}
 use Rattle.std.specs.Prelude.{if◌then◌else◌, slice_index, decimal}
 use Rattle.std.specs.Fmt.{digits, digits_onto, digit_glyph}

@@ -1,4 +1,5 @@
--- No step of a run reads the journal that a scenario has of its own: with another one a journal has the same run, and the same fault.
+-- No step of a run reads the journal that a scenario has of its own: with another one a journal has
+-- the same run, and the same fault.
 use Rattle.std.specs.Prelude.{◌≡◌, ℕ, ◌+◌, List, [], ◌∷◌, Option, refl}
 use Rattle.std.proofs.Common.{ap, ◌∙◌}
 use Rattle.cany_base.specs.declared.step.Step.{Step}

@@ -1,4 +1,5 @@
--- No line of a report reads the journal that a scenario has of its own, so with the journal of its report it has that report again.
+-- No line of a report reads the journal that a scenario has of its own, so with the journal of its
+-- report it has that report again.
 use Rattle.std.specs.Prelude.{◌≡◌, List, Option, Some, refl}
 use Rattle.std.specs.List.{concat}
 use Rattle.std.proofs.Common.{ap, ◌∙◌}

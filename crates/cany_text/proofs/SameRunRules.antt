@@ -1,4 +1,5 @@
--- No rule of a turn reads the journal that a scenario has of its own: with another one each computes to the same.
+-- No rule of a turn reads the journal that a scenario has of its own: with another one each
+-- computes to the same.
 use Rattle.std.specs.Prelude.{◌≡◌, ℕ, zero, suc, List, Option, refl}
 use Rattle.cany_base.specs.declared.notice.NoticeKind.{NoticeKind}
 use Rattle.cany_base.specs.declared.step.Step.{Step}

@@ -56,7 +56,8 @@ slot_place_from params entry = do
   slot ← required (number_from 0 (params.slots - 1)) key.Slot entry
   Ok (At slot)
 
--- where a rule for a frame acts: at an attempt, counted from 1, to carry the frame of this class, number and node
+-- where a rule for a frame acts: at an attempt, counted from 1, to carry the frame of this class,
+-- number and node
 unfoldable pub frame_place_from : Parameters → Entry → Read Place
 frame_place_from params entry = do
   _ ← only_keys frame_rule_keys entry

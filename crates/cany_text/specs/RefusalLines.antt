@@ -54,8 +54,8 @@ abbrev pub unread_fields : Option ℕ → List (List ℕ)
 unread_fields None = []
 unread_fields (Some node) = codes "node" ∷ decimal node ∷ []
 
--- the line of a journal that is refused: the place of its first step that is not done, counted from 0, and why; or how many
--- slots ran by its end, and the least running node with something to read
+-- the line of a journal that is refused: the place of its first step that is not done, counted from
+-- 0, and why; or how many slots ran by its end, and the least running node with something to read
 unfoldable pub journal_refusal_line : FollowFault → List ℕ
 journal_refusal_line (Refused place reply) = line_of (codes "refused journal step" ∷ decimal place ∷ reply_fields reply)
 journal_refusal_line (Unfinished ran left) = line_of (codes "refused journal unfinished ran" ∷ decimal ran ∷ unread_fields left)

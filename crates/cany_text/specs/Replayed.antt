@@ -13,8 +13,8 @@ with_journal given scenario = record scenario { journal = given }
 abbrev pub following : List Step → ScenarioParts → ScenarioParts
 following journal scenario = with_journal (Some journal) scenario
 
--- The scenario that follows the journal is a legal one, takes that very journal, finds no fault in it, and has by it the report that the
--- scenario has.
+-- The scenario that follows the journal is a legal one, takes that very journal, finds no fault in
+-- it, and has by it the report that the scenario has.
 pub record GivesReportAgain (scenario : ScenarioParts) (journal : List Step) : Type 0 where
   pub legal : IsLegalScenario (following journal scenario)
   pub taken : journal_of (following journal scenario) ≡ journal

@@ -114,7 +114,8 @@ abbrev stop_fields : Option ℕ → List (List ℕ)
 stop_fields None = codes "correct" ∷ []
 stop_fields (Some slot) = codes "stopped" ∷ decimal slot ∷ []
 
--- an incarnation of a node: since when it runs, where it is not the first; whether it stopped; and how many notices it read
+-- an incarnation of a node: since when it runs, where it is not the first; whether it stopped; and
+-- how many notices it read
 unfoldable pub node_line : ℕ → ℕ → Span → List ℕ
 node_line i inc span = line_of (
     codes "node" ∷ decimal i ∷ incarnation_fields inc span.since ++ stop_fields span.stopped ++ codes "read" ∷ decimal span.read ∷ [])

@@ -1,5 +1,5 @@
--- What scenario the bytes of a text stand for, or the first fault in it. The order of the faults is the order in which the
--- parts below are read.
+-- What scenario the bytes of a text stand for, or the first fault in it. The order of the faults is
+-- the order in which the parts below are read.
 use Rattle.std.specs.Prelude.{ℕ, List, [], ◌∷◌, Ok, Err, if◌then◌else◌}
 use Rattle.std.specs.Str.{is_utf8}
 use Rattle.toml.specs.Parse.{parse_document}

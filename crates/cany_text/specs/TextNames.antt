@@ -1,4 +1,5 @@
--- The words that the texts share: what classes, services, verdicts, parameters, tables and keys are called in them.
+-- The words that the texts share: what classes, services, verdicts, parameters, tables and keys are
+-- called in them.
 use Rattle.std.specs.Prelude.{ℕ, List, Option, find, codes}
 use Rattle.std.specs.Str.{bytes_eq}
 use Rattle.cany_base.specs.declared.class.Class.{Class}

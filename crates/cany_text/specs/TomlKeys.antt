@@ -31,7 +31,8 @@ abbrev pub fault_unless : Bool → ScenarioFault → Read (Unit {0})
 fault_unless true fault = Ok tt
 fault_unless false fault = Err fault
 
--- one table of the text: the top table, or an entry of an array of tables at its place, counted from 0
+-- one table of the text: the top table, or an entry of an array of tables at its place, counted
+-- from 0
 pub record Entry : Type 0 where
   pub table : TableName
   pub place : ℕ
@@ -90,7 +91,8 @@ all_within low high at (number ∷ rest) = do
   others ← all_within low high at rest
   Ok (first ∷ others)
 
--- an array of integers from low to high: the kinds of all of them come before the range of the first
+-- an array of integers from low to high: the kinds of all of them come before the range of the
+-- first
 abbrev pub numbers_from : ℕ → ℕ → Position → Data → Read (List ℕ)
 numbers_from low high at value = do
   items ← of_kind at (as_array value)
@@ -99,7 +101,8 @@ numbers_from low high at value = do
 
 -- ---- arrays of tables
 
--- what the entries of the array of this name stand for, from this place on, each of which is a table
+-- what the entries of the array of this name stand for, from this place on, each of which is a
+-- table
 abbrev pub each_entry : {A : Type 0} → TableName → KeyName → (Entry → Read A) → ℕ → Items → Read (List A)
 each_entry table name read place no_items = Ok []
 each_entry table name read place (item value rest) = do
@@ -125,7 +128,8 @@ entries_of table most read name top = optional (entries_from table most read) []
 
 -- ---- the first entry of which a test holds
 
--- The place of the first item of which the test holds, which is told the items before it, the newest first.
+-- The place of the first item of which the test holds, which is told the items before it, the
+-- newest first.
 abbrev pub first_after : {A : Type 0} → (List A → A → Bool) → List A → List A → Option ℕ
 first_after test before [] = None
 first_after test before (x ∷ rest) = if test before x then Some (length before) else first_after test (x ∷ before) rest

@@ -10,11 +10,13 @@ ghost use Rattle.cany_text.specs.Replayed.{GivesReportAgain, with_journal};
 ghost use Rattle.cany_text.specs.ReadOff.{AgreeOnWhatIsTold};
 ghost use Rattle.cany_text.specs.Report.{report};
 
-/// Replayed reports: a report's journal, given to the scenario for its own, gives the same report again.
+/// Replayed reports: a report's journal, given to the scenario for its own, gives the same report
+/// again.
 ///
-/// No rule of a run reads the scenario's own journal: whatever that is, or where there is none, each journal has the same run. So a legal
-/// and whole journal, put in the place of the own one, leaves the scenario legal, is the one that it then follows, has no fault, and leads
-/// to the bytes of the report that it is taken from.
+/// No rule of a run reads the scenario's own journal: whatever that is, or where there is none,
+/// each journal has the same run. So a legal and whole journal, put in the place of the own one,
+/// leaves the scenario legal, is the one that it then follows, has no fault, and leads to the bytes
+/// of the report that it is taken from.
 pub fn replayed_reports()
     ensures same_run { (given : Option (List Step)) (scenario : ScenarioParts) (journal : List Step)
         → run (with_journal given scenario) journal ≡ run scenario journal }
@@ -22,9 +24,10 @@ pub fn replayed_reports()
         → IsWhole scenario journal → GivesReportAgain scenario journal }
 {}
 
-/// Reading off: legal runs of legal scenarios whose reports are equal have the same parameters and the same journal, each node came to the
-/// same incarnation in both, and each incarnation of each node has the same log, entry by entry, where the payloads of the sends are bytes.
-/// So every delivery, failure sign and view can be read off a report.
+/// Reading off: legal runs of legal scenarios whose reports are equal have the same parameters and
+/// the same journal, each node came to the same incarnation in both, and each incarnation of each
+/// node has the same log, entry by entry, where the payloads of the sends are bytes. So every
+/// delivery, failure sign and view can be read off a report.
 ///
 /// Two runs of one scenario with equal reports are one run, since their journals are equal.
 pub fn what_a_report_tells()

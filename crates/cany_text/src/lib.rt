@@ -1,4 +1,5 @@
-//! What the texts are: the scenario that bytes stand for, the report and the refusals; and what holds of every report.
+//! What the texts are: the scenario that bytes stand for, the report and the refusals; and what
+//! holds of every report.
 #![tactic(auto)]
 
 pub mod laws;

@@ -1,4 +1,5 @@
-//! The words by which texts name classes, services, verdicts, parameters, tables, keys, and what breaks the fault hypothesis.
+//! The words by which texts name classes, services, verdicts, parameters, tables, keys, and what
+//! breaks the fault hypothesis.
 ghost use Rattle.std.specs.Prelude.{◌≡◌, ◌≤◌, length};
 ghost use Rattle.cany_text.specs.ReportLines as report;
 ghost use Rattle.cany_text.specs.TextNames as text;

@@ -59,8 +59,8 @@ pub struct Position {
     pub name: KeyName,
 }
 
-/// The first fault of a text that is no scenario, in the order that `docs/texts.md` lists. A place is the index of an entry in
-/// its array of tables, counted from 0, and 0 for the top table.
+/// The first fault of a text that is no scenario, in the order that `docs/texts.md` lists. A place
+/// is the index of an entry in its array of tables, counted from 0, and 0 for the top table.
 #[derive(Clone, Copy)]
 pub enum ScenarioFault {
     /// The bytes are not UTF-8.
@@ -78,8 +78,8 @@ pub enum ScenarioFault {
         place: usize,
         name: KeyName,
     },
-    /// The value, or an element of it, is not of the key's kind, or none of its words. For an entry that is no table the name
-    /// is the key of the array.
+    /// The value, or an element of it, is not of the key's kind, or none of its words. For an entry
+    /// that is no table the name is the key of the array.
     WrongKind {
         table: TableName,
         place: usize,
@@ -100,7 +100,8 @@ pub enum ScenarioFault {
     BadData {
         place: usize,
     },
-    /// A formula does not hold: the first such, by the parameter that it bounds, with the least value that it allows.
+    /// A formula does not hold: the first such, by the parameter that it bounds, with the least
+    /// value that it allows.
     BoundTooSmall {
         which: ParamName,
         needed: u64,

@@ -195,7 +195,8 @@ module _ (n : ℕ) (before : List NoticeKind) (old : List Open) (h : AreAcceptan
     noted_then : (key : MsgKey) (b : Bool) → holds key notice ≡ b → noted_of new key ≡ (if b then nothing else noted_of old key)
     noted_then key b is = gone.noted key ∙ ap (λ b. if b then nothing else noted_of old key) (sym (holds-some key notice f brings) ∙ is)
 
-    -- so each part of what is noted is what is read of it since the place, where it is so before the notice, which changes nothing of it
+    -- so each part of what is noted is what is read of it since the place, where it is so before
+    -- the notice, which changes nothing of it
     part_moved : {X : Type 0} (part : Noted → X) (read : Identity → List NoticeKind → X)
         → ((key : MsgKey) → read (accept_of_key key) [] ≡ part nothing)
         → ((key : MsgKey) → is_recent n key before ≡ true → part (noted_of old key) ≡ read (accept_of_key key) (after_place key before))

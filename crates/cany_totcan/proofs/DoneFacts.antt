@@ -35,8 +35,8 @@ has_accepted p i past x = is_accepted p.bound i (message_in x.frame) past
 abbrev pub is_past : Parameters → List NoticeKind → Placed → Bool
 is_past p past x = nat_lt (x.place + p.bound) (length past)
 
--- the data frames of those that are done of these messages, the oldest place first: those that are accepted, up to the first that is
--- neither accepted nor closed
+-- the data frames of those that are done of these messages, the oldest place first: those that are
+-- accepted, up to the first that is neither accepted nor closed
 abbrev pub done_of : Parameters → ℕ → List NoticeKind → List Placed → List FrameParts
 done_of p i past [] = []
 done_of p i past (x ∷ items) =
@@ -490,7 +490,8 @@ closed_delivered p i key (notice ∷ before) accepted closed =
           (closed_delivered p i key before (sym (accepted_before p.bound i key notice before w.0 w.1) ∙ accepted) w.1)
     ]
 
--- so of those that are done the ones that were placed before the newest notices are delivered already
+-- so of those that are done the ones that were placed before the newest notices are delivered
+-- already
 module _ (p : Parameters) (i : ℕ) (notice : NoticeKind) (before : List NoticeKind) where
   older_delivered : (x : Placed) → IsOlder (p.bound + 1) (notice ∷ before) x → has_accepted p i (notice ∷ before) x ≡ true
       → is_among (delivered p i before) x.frame ≡ true

@@ -226,7 +226,8 @@ module _ (scenario : ScenarioParts) (i : ℕ) (before : List NoticeKind) (messag
     closed_if : f.class ≡ class.Accept → same_class f.class class.Accept ≡ true → is_recent scenario.params.bound (message_in f) before ≡ false
     closed_if is same = sym (ap (λ b. b && is_recent scenario.params.bound (message_in f) before) same) ∙ not_open
 
-    -- a notice of the frame says nothing of an open message where that of one that accepts a closed message, or is of another class, does not
+    -- a notice of the frame says nothing of an open message where that of one that accepts a closed
+    -- message, or is of another class, does not
     heard_apart : (notice : NoticeKind) → tot_in notice ≡ None → brings_own i notice ≡ false
         → (f.class ≡ class.Accept → is_recent scenario.params.bound (message_in f) before ≡ false → AcceptsNone scenario.params.bound notice before)
         → (same_class f.class class.Accept ≡ false → AcceptsNone scenario.params.bound notice before)

@@ -65,7 +65,8 @@ past_late : (now notices many : ℕ) (place : Option ℕ) → now + 1 ≡ many �
 past_late now notices many None at = refl
 past_late now notices many (Some c) at = grind (arith, nat_tests)
 
--- in the turn of the newest notice so many slots have passed since the place, or it is one of so many newest notices
+-- in the turn of the newest notice so many slots have passed since the place, or it is one of so
+-- many newest notices
 pub past_is : (now notices : ℕ) (key : MsgKey) (past : List NoticeKind) → now + 1 ≡ length past
     → is_past now notices (place_of key past) ≡ not (is_recent notices key past)
 past_is now notices key past at = past_late now notices (length past) (place_of key past) at ∙ ap not (sym (recent_is notices key past))

@@ -62,7 +62,8 @@ brings_own i (Got f) = same_class f.class class.Tot && f.node == i
 brings_own i (Sent f) = same_class f.class class.Tot && f.node == i
 brings_own i Bad = false
 
--- the notice brings the data frame of the message of node i that has this number, and whether it is the node's own transmission
+-- the notice brings the data frame of the message of node i that has this number, and whether it is
+-- the node's own transmission
 pub record IsOfOwn (i seq : ℕ) (is_own : Bool) (notice : NoticeKind) : Type 0 where
   pub here : holds (key_of seq i) notice ≡ true
   pub own : is_sent (tot_of_key (key_of seq i)) notice ≡ is_own

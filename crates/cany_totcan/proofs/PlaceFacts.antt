@@ -1,4 +1,5 @@
--- The places of messages: what one notice more does to them, how old they are, and which message closes.
+-- The places of messages: what one notice more does to them, how old they are, and which message
+-- closes.
 use Rattle.std.proofs.Common.{◌≡◌, ℕ, zero, suc, ◌+◌, ◌-◌, ◌<◌, ◌≤◌, ◌&&◌, ◌||◌, ◌⊎◌, inl, inr, Bool, true, false, if◌then◌else◌, not, List, [], ◌∷◌, ◌++◌, length, take, get_or, filter, Option, Some, None, refl, ap, sym, ◌∙◌, add-one, append_assoc, arith}
 use Rattle.std.specs.Prelude.{slice_index_or}
 use Rattle.std.specs.List.{AllByRecursion, list_any}
@@ -216,8 +217,8 @@ pub placed_moved : (n : ℕ) (notice : NoticeKind) (before : List NoticeKind) (f
     → placed_in (n + 1) (notice ∷ before) ≡ without_key (message_in f) (placed_in n before) ++ record { frame = f; place = length before } ∷ []
 placed_moved n notice before f brings = rw add-one (moved_next n notice before f brings)
 
--- A fact about the messages whose places are the n newest notices holds if it holds where there are none and is kept by one notice
--- more.
+-- A fact about the messages whose places are the n newest notices holds if it holds where there are
+-- none and is kept by one notice more.
 module _ (Q : ℕ → List NoticeKind → List Placed → Type 0) (none : (past : List NoticeKind) → Q 0 past []) (empty : (n : ℕ) → Q (suc n) [] [])
     (kept : (n : ℕ) (notice : NoticeKind) (before : List NoticeKind) (items : List Placed) → tot_in notice ≡ None → Q n before items
     → Q (suc n) (notice ∷ before) items)

@@ -1,5 +1,5 @@
--- Facts about the open messages of a node: which are there once a message was removed or placed, that each stands there once, and that
--- there is room for the messages of a scenario.
+-- Facts about the open messages of a node: which are there once a message was removed or placed,
+-- that each stands there once, and that there is room for the messages of a scenario.
 use Rattle.std.proofs.Common.{◌≡◌, ℕ, zero, suc, ◌+◌, ◌-◌, ◌<◌, ◌≤◌, ◌==◌, ◌&&◌, ◌||◌, inl, inr, Bool, true, false, not, List, [], ◌∷◌, ◌++◌, count_by, filter, length, take, drop, Option, Some, None, refl, ap, sym, ◌∙◌, subst, arith}
 use Rattle.std.specs.Prelude.{cond, min, IfSome, IfNone, is_some, remove}
 use Rattle.std.specs.List.{AllByRecursion, list_any}

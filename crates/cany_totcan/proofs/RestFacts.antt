@@ -1,4 +1,5 @@
--- An idle notice in whose turn nothing closes and no message is asked for leaves the value as it is.
+-- An idle notice in whose turn nothing closes and no message is asked for leaves the value as it
+-- is.
 use Rattle.std.proofs.Common.{◌≡◌, ℕ, ◌-◌, ◌≤◌, ◌==◌, ◌&&◌, ◌||◌, inl, inr, if◌then◌else◌, List, [], ◌∷◌, ◌++◌, length, Option, Some, None, refl, ap, sym, subst, ◌∙◌, arith}
 use Rattle.std.specs.Prelude.{nat_lt, option_map, slice_get}
 use Rattle.std.proofs.Math.Bool.{or-false}

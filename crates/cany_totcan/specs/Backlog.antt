@@ -4,8 +4,8 @@ use Rattle.std.specs.List.{AllByRecursion}
 use Rattle.cany_totcan.specs.declared.backlog.Given.{Given}
 use Rattle.cany_totcan.specs.declared.backlog.OwnMessage.{OwnMessage}
 
--- the messages in the order in which they were given, how many there may be, how many of them were asked for, and what became of
--- each message of the node, by sequence number
+-- the messages in the order in which they were given, how many there may be, how many of them were
+-- asked for, and what became of each message of the node, by sequence number
 pub record BacklogParts : Type 0 where
   pub given : List Given
   pub room : ℕ

@@ -19,7 +19,8 @@ unfoldable pub most_of_one : List SendAsk → ℕ → ℕ
 most_of_one sends zero = 0
 most_of_one sends (suc nodes) = max (count_by (is_from nodes) sends) (most_of_one sends nodes)
 
--- A number above those of all messages by TOTCAN: the messages of an origin are numbered together, whatever their service.
+-- A number above those of all messages by TOTCAN: the messages of an origin are numbered together,
+-- whatever their service.
 abbrev pub numbers_of : ScenarioParts → ℕ
 numbers_of scenario = if sends_by scenario service.Tot == 0 then 0 else most_of_one scenario.sends scenario.params.nodes
 

@@ -8,8 +8,8 @@ use Rattle.cany_model.specs.Rules.Totcan.{is_place, message_in, tot_in}
 use Rattle.cany_totcan.specs.declared.queue.Placed.{Placed}
 use Rattle.cany_totcan.specs.MessageSet.{MessageSetParts, has_message}
 
--- those that are open, the oldest place first; how many of them, from the first on, are done; how many there may be; and the number
--- that theirs are below
+-- those that are open, the oldest place first; how many of them, from the first on, are done; how
+-- many there may be; and the number that theirs are below
 pub record OpenParts : Type 0 where
   pub items : List Placed
   pub done : ℕ
@@ -76,13 +76,15 @@ without_oldest slot v = without_oldest_from slot v v.items
 
 -- ---- what was read
 
--- the message of this data frame, which came in a notice that so many newer ones follow, at its place
+-- the message of this data frame, which came in a notice that so many newer ones follow, at its
+-- place
 abbrev pub placed_at : List NoticeKind → ℕ → Option FrameParts → List Placed
 placed_at past age None = []
 placed_at past age (Some f) =
     if is_place age past (message_in f) then record { frame = f; place = length past - (age + 1) } ∷ [] else []
 
--- the messages whose places are among these notices, the first of which has this age: the oldest place first
+-- the messages whose places are among these notices, the first of which has this age: the oldest
+-- place first
 unfoldable pub placed_from : List NoticeKind → ℕ → List NoticeKind → List Placed
 placed_from past age [] = []
 placed_from past age (notice ∷ older) = placed_from past (age + 1) older ++ placed_at past age (tot_in notice)

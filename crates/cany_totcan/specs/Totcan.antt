@@ -24,9 +24,9 @@ use Rattle.cany_totcan.specs.Backlog.{BacklogParts, own_at}
 use Rattle.cany_totcan.specs.MessageSet.{MessageSetParts, HasRoomOf, has_message, numbers_of}
 use Rattle.cany_totcan.specs.Queue.{OpenParts, placed_in}
 
--- the node, the format of identifiers, how long a message stays open, how far the places of the node's own messages lie apart, how
--- many omissions of a frame there may be, the open messages, each with what is noted of its acceptances, what was delivered, and the
--- node's own messages
+-- the node, the format of identifiers, how long a message stays open, how far the places of the
+-- node's own messages lie apart, how many omissions of a frame there may be, the open messages,
+-- each with what is noted of its acceptances, what was delivered, and the node's own messages
 pub record TotcanParts : Type 0 where
   pub node : ℕ
   pub format : Format
@@ -41,7 +41,8 @@ pub record TotcanParts : Type 0 where
 abbrev pub key_of : (seq origin : ℕ) → MsgKey
 key_of seq origin = record { origin = origin; seq = seq }
 
--- the value is that of a node of the scenario, with room for as many of its messages by TOTCAN as are ever open at once
+-- the value is that of a node of the scenario, with room for as many of its messages by TOTCAN as
+-- are ever open at once
 pub record HasLimitsOf (scenario : ScenarioParts) (i : ℕ) (v : TotcanParts) : Type 0 where
   pub legal : IsLegalScenario scenario
   pub node : v.node ≡ i
@@ -54,12 +55,14 @@ pub record HasLimitsOf (scenario : ScenarioParts) (i : ℕ) (v : TotcanParts) : 
   pub numbers : v.queue.numbers ≡ numbers_of scenario
   pub deliveries : HasRoomOf scenario v.deliveries
 
--- What is noted of each message whose place is one of so many newest notices are the acceptances that were read after the place.
+-- What is noted of each message whose place is one of so many newest notices are the acceptances
+-- that were read after the place.
 pub record AreAcceptances (newest : ℕ) (past : List NoticeKind) (entries : List Open) : Type 0 where
   pub copies : (key : MsgKey) → is_recent newest key past ≡ true → (noted_of entries key).copies ≡ copies (accept_of_key key) (after_place key past)
   pub owned : (key : MsgKey) → is_recent newest key past ≡ true → (noted_of entries key).owned ≡ has_own (accept_of_key key) (after_place key past)
 
--- The open messages are those whose places are among so many newest notices, and are messages of the scenario.
+-- The open messages are those whose places are among so many newest notices, and are messages of
+-- the scenario.
 pub record AreOpen (scenario : ScenarioParts) (newest : ℕ) (past : List NoticeKind) (items : List Placed) : Type 0 where
   pub places : items ≡ placed_in newest past
   pub messages : AllByRecursion (λ x. NamesMessage scenario service.Tot x.frame) items
@@ -102,7 +105,8 @@ pub record IsOwnTot (scenario : ScenarioParts) (i : ℕ) (m : Message) : Type 0 
 abbrev pub has_seq : ℕ → Message → Bool
 has_seq seq m = seq == m.seq
 
--- The backlog is that of node i, which was given these messages and has asked for so many of them, after these notices.
+-- The backlog is that of node i, which was given these messages and has asked for so many of them,
+-- after these notices.
 pub record IsBacklogOf (scenario : ScenarioParts) (i : ℕ) (past : List NoticeKind) (messages : List Message) (count : ℕ) (v : BacklogParts) : Type 0 where
   pub given : v.given ≡ map given_of messages
   pub are_own : AllByRecursion (IsOwnTot scenario i) messages
@@ -117,7 +121,8 @@ pub record IsBacklogOf (scenario : ScenarioParts) (i : ℕ) (past : List NoticeK
 
 -- ---- the value
 
--- The value is that of node i after these notices, newest first. It was given these messages, and has asked for so many of them.
+-- The value is that of node i after these notices, newest first. It was given these messages, and
+-- has asked for so many of them.
 pub record IsTotcanOf (scenario : ScenarioParts) (i : ℕ) (past : List NoticeKind) (messages : List Message) (count : ℕ) (v : TotcanParts) : Type 0 where
   pub limits : HasLimitsOf scenario i v
   pub queue : AreOpen scenario scenario.params.bound past v.queue.items
@@ -127,7 +132,8 @@ pub record IsTotcanOf (scenario : ScenarioParts) (i : ℕ) (past : List NoticeKi
   pub pending : IsFirstPending scenario.params i past (slice_get v.queue.items v.queue.done)
   pub backlog : IsBacklogOf scenario i past messages count v.backlog
 
--- The same in the turn of a notice, before what closes and what is delivered in it: the message that closes now is still there.
+-- The same in the turn of a notice, before what closes and what is delivered in it: the message
+-- that closes now is still there.
 pub record HasHeard (scenario : ScenarioParts) (i : ℕ) (notice : NoticeKind) (before : List NoticeKind)
     (messages : List Message) (count : ℕ) (v : TotcanParts) : Type 0 where
   pub limits : HasLimitsOf scenario i v

@@ -79,8 +79,8 @@ tot_actions slot frames = map (λ f. Enter (delivery slot service.Tot f)) frames
 abbrev pub is_named : (seq origin : ℕ) → FrameParts → Bool
 is_named seq origin f = seq == f.number && origin == f.node
 
--- The message of the data frame can have its place in the slot: there is room for it, the places of the open messages are before, and
--- the node keeps something of it if it is its own.
+-- The message of the data frame can have its place in the slot: there is room for it, the places of
+-- the open messages are before, and the node keeps something of it if it is its own.
 pub record CanHold (v : TotcanParts) (f : FrameParts) (slot : ℕ) : Type 0 where
   pub number : f.number < v.queue.numbers
   pub room : length (without_key (message_in f) v.queue.items) < v.queue.room
@@ -128,7 +128,8 @@ closing_accepted v (Some f) = if_accepted v f
 
 -- ---- what is true of the open messages
 
--- the message is one of the scenario, and if it is the node's it is among those whose fate the node keeps
+-- the message is one of the scenario, and if it is the node's it is among those whose fate the node
+-- keeps
 pub record IsKnown (scenario : ScenarioParts) (node seqs : ℕ) (f : FrameParts) : Type 0 where
   pub message : NamesMessage scenario service.Tot f
   pub own : f.node ≡ node → f.number < seqs

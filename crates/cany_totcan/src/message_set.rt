@@ -69,8 +69,8 @@ impl MessageSet {
     }
 }
 
-/// A number above those of all messages of the scenario by TOTCAN: the most sends of one node, since
-/// those of an origin are numbered together, whatever their service.
+/// A number above those of all messages of the scenario by TOTCAN: the most sends of one node,
+/// since those of an origin are numbered together, whatever their service.
 pub(crate) fn numbers_of(scenario: &Scenario) -> usize
     ensures { result ≡ numbers_of scenario.now }
 {

@@ -1,4 +1,5 @@
--- What a value of views stands for with other sets: before anything is heard, outside, and with a vector that becomes the view.
+-- What a value of views stands for with other sets: before anything is heard, outside, and with a
+-- vector that becomes the view.
 use Rattle.std.proofs.Common.{◌≡◌, ℕ, ◌<◌, refl, ap, arith}
 use Rattle.cany_base.specs.Nodes.{AllBelow, Nodes, nobody, meet, minus}
 use Rattle.cany_base.specs.Scenario.{ScenarioParts, IsLegalScenario}

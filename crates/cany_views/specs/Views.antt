@@ -10,8 +10,9 @@ use Rattle.cany_model.specs.Rules.Notices.{IsReadable}
 use Rattle.cany_model.specs.Rules.Knowledge.{Knowledge}
 use Rattle.cany_base.specs.Cycles.{cycle_of}
 
--- the node, the parameters, its view of the site, the nodes that have asked to join it and those that have asked to leave it, and the
--- cycles in which the node's own script asks to join and to leave
+-- the node, the parameters, its view of the site, the nodes that have asked to join it and those
+-- that have asked to leave it, and the cycles in which the node's own script asks to join and to
+-- leave
 pub record ViewsParts : Type 0 where
   pub node : ℕ
   pub params : Parameters
@@ -31,8 +32,8 @@ pub record HasNodesOfBus (v : ViewsParts) : Type 0 where
 abbrev pub AreNumbers : List ℕ → Type 0
 AreNumbers cycles = All (λ cycle. cycle < most_numbers) cycles
 
--- What is true of every value: its nodes are those of the bus, a cycle has slots, and frames can have the numbers of the cycles of the run
--- and of its asks.
+-- What is true of every value: its nodes are those of the bus, a cycle has slots, and frames can
+-- have the numbers of the cycles of the run and of its asks.
 pub record IsInBounds (v : ViewsParts) : Type 0 where
   pub node : v.node < v.params.nodes
   pub below : HasNodesOfBus v
@@ -53,7 +54,8 @@ pub record HasLimitsOf (scenario : ScenarioParts) (i node : ℕ) (params : Param
   pub are_joins : joins ≡ asked_cycles scenario.params i scenario.joins
   pub are_leaves : leaves ≡ asked_cycles scenario.params i scenario.leaves
 
--- The value is that of node i where it knows what this knowledge knows of members, and of who has asked.
+-- The value is that of node i where it knows what this knowledge knows of members, and of who has
+-- asked.
 pub record IsViewsOf (scenario : ScenarioParts) (i : ℕ) (knowledge : Knowledge) (v : ViewsParts) : Type 0 where
   pub limits : HasLimitsOf scenario i v.node v.params v.joins v.leaves
   pub members : v.members ≡ knowledge.members
@@ -61,7 +63,8 @@ pub record IsViewsOf (scenario : ScenarioParts) (i : ℕ) (knowledge : Knowledge
   pub leavers : v.leavers ≡ knowledge.leavers
   pub below : HasNodesOfBus v
 
--- there is a scenario, and what is known in it, that the value stands for, and its nodes can read the notice
+-- there is a scenario, and what is known in it, that the value stands for, and its nodes can read
+-- the notice
 pub record CanHear (v : ViewsParts) (notice : Notice) : Type 0 where
   pub scenario : ScenarioParts
   pub knowledge : Knowledge

@@ -1,4 +1,5 @@
--- What an ask that is heard and a vector that becomes the view do to a value of views, and the actions that a view calls for.
+-- What an ask that is heard and a vector that becomes the view do to a value of views, and the
+-- actions that a view calls for.
 use Rattle.std.specs.Prelude.{ℕ, if◌then◌else◌, List, ◌∷◌, map}
 use Rattle.cany_base.specs.declared.actions.Action.{Action}
 use Rattle.cany_base.specs.declared.actions.Action.TheVariants.{Enter, Withdraw}

@@ -48,7 +48,8 @@ fn push_asked(params: &Params, node: NodeId, ask: &NodeAsk, cycles: &mut Bounded
     }
 }
 
-/// The frame by which a node asks to join or to leave, in a cycle. It tells no incarnation: its node does that.
+/// The frame by which a node asks to join or to leave, in a cycle. It tells no incarnation: its
+/// node does that.
 pub(crate) fn ask_frame(class: Class, cycle: u16, node: NodeId) -> Frame
     requires { FitsClass class [] }
     ensures { result ≡ ask_frame class 0 cycle node }

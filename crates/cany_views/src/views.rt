@@ -24,9 +24,10 @@ use std::marker::Model;
 
 /// The view of the site at one node, and who has asked to join it and to leave it.
 ///
-/// This project's own rule. A node outside the view asks to join it, a member asks to leave it. At the start of a membership cycle a
-/// member offers the members that have not failed and do not leave, and those that join. The vector to which the nodes come by the end
-/// of the cycle becomes the view.
+/// This project's own rule. A node outside the view asks to join it, a member asks to leave it. At
+/// the start of a membership cycle a member offers the members that have not failed and do not
+/// leave, and those that join. The vector to which the nodes come by the end of the cycle becomes
+/// the view.
 #[derive(Drop)]
 pub struct Views {
     node: NodeId,
@@ -55,7 +56,8 @@ impl Model for Views {
 }
 
 impl Views {
-    /// That of a node that has read nothing. The members are those of the scenario, and nobody has asked.
+    /// That of a node that has read nothing. The members are those of the scenario, and nobody has
+    /// asked.
     pub fn build(alloc: Global, node: NodeId, scenario: &Scenario) -> Result<Views, Memory>
         requires { node < scenario.now.params.nodes }
         ensures { IfOk result (λ views. IsViewsOf scenario.now node (knowledge_at_first scenario.now.members) views) }
@@ -74,7 +76,8 @@ impl Views {
         })
     }
 
-    /// That of a node which is at first no member, as one that starts again: it knows no member, and of nobody that has asked.
+    /// That of a node which is at first no member, as one that starts again: it knows no member,
+    /// and of nobody that has asked.
     pub fn begin_outside(&mut self)
         ensures stands { (scenario : ScenarioParts) (knowledge : Knowledge) → IsViewsOf scenario self.old.node knowledge self.old →
             IsViewsOf scenario self.old.node (knowledge_at_first nobody) self.new }
@@ -88,7 +91,8 @@ impl Views {
         self.leavers = NodeSet::empty();
     }
 
-    /// Who asks in a notice to join the view or to leave it. A join counts where it is got, a leave also where it is the node's own.
+    /// Who asks in a notice to join the view or to leave it. A join counts where it is got, a leave
+    /// also where it is the node's own.
     pub fn hear(&mut self, notice: &Notice)
         requires { CanHear self.old notice.now }
         ensures stands { (scenario : ScenarioParts) (knowledge : Knowledge) → IsViewsOf scenario self.old.node knowledge self.old →
@@ -125,8 +129,8 @@ impl Views {
         self.members
     }
 
-    /// What a member starts a cycle with, where these nodes have failed: the members that have not failed and do not leave, and those
-    /// that join. A node that is no member starts with nothing.
+    /// What a member starts a cycle with, where these nodes have failed: the members that have not
+    /// failed and do not leave, and those that join. A node that is no member starts with nothing.
     pub fn start(&self, failed: NodeSet) -> Option<NodeSet>
         requires failed { AllBelow self.now.params.nodes failed }
         ensures exact { (scenario : ScenarioParts) (knowledge : Knowledge) → IsViewsOf scenario self.now.node knowledge self.now →
@@ -140,10 +144,12 @@ impl Views {
         }
     }
 
-    /// The vector of a cycle that ends becomes the view. The nodes that are newly admitted, which were not in the view before.
+    /// The vector of a cycle that ends becomes the view. The nodes that are newly admitted, which
+    /// were not in the view before.
     ///
-    /// A node of the new view enters it in its log and withdraws its asks to join. One that is not in it withdraws its asks to leave.
-    /// At most one action is appended, and one for each scripted ask of the node. The number of the view is that of the cycle of the slot.
+    /// A node of the new view enters it in its log and withdraws its asks to join. One that is not
+    /// in it withdraws its asks to leave. At most one action is appended, and one for each scripted
+    /// ask of the node. The number of the view is that of the cycle of the slot.
     pub fn install(&mut self, ended: Ended, now: Slot, out: &mut Actions) -> NodeSet
         requires vector { AllBelow self.old.params.nodes ended.vector }
         requires now { now < self.old.params.slots }
@@ -168,7 +174,8 @@ impl Views {
         newly
     }
 
-    /// In the turn of a slot in which the node's script asks to join: a node that is no member asks.
+    /// In the turn of a slot in which the node's script asks to join: a node that is no member
+    /// asks.
     ///
     /// At most one action is appended. The frame tells no incarnation: its node does that.
     pub fn ask_join(&mut self, now: Slot, out: &mut Actions)
@@ -233,7 +240,8 @@ impl Views {
         }
     }
 
-    /// The vector becomes the view: who is in it asks no longer to join, and who is not in it no longer to leave.
+    /// The vector becomes the view: who is in it asks no longer to join, and who is not in it no
+    /// longer to leave.
     fn become_view(&mut self, vector: NodeSet)
         requires { AllBelow self.old.params.nodes vector }
         ensures { self.new ≡ installed vector self.old }
@@ -243,7 +251,8 @@ impl Views {
         self.leavers = self.leavers.meet(vector);
     }
 
-    /// A node of the view enters it and withdraws its asks to join, another node withdraws its asks to leave, whatever their cycle.
+    /// A node of the view enters it and withdraws its asks to join, another node withdraws its asks
+    /// to leave, whatever their cycle.
     fn act_on_view(&self, vector: NodeSet, now: Slot, out: &mut Actions)
         requires now { now < self.now.params.slots }
         requires room { length out.old.items + 1 + length self.now.joins + length self.now.leaves ≤ out.old.room }

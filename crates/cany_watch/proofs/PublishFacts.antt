@@ -111,7 +111,8 @@ drop_all [] (suc n) le = refl
 drop_all (x ∷ xs) zero le = absurd (omega arith)
 drop_all (x ∷ xs) (suc n) le = drop_all xs n (omega arith)
 
--- what was taken begins the line, and reaches into this log or past it: what is left of the log continues it
+-- what was taken begins the line, and reaches into this log or past it: what is left of the log
+-- continues it
 pub left_continues : (line before log taken : List LogEntry) (known : ℕ) → IsPrefix (before ++ log) line → IsPrefix taken line → length before ≤ length taken
     → known ≡ min (length taken - length before) (length log) → IsPrefix (taken ++ drop known log) line
 left_continues line before log taken known p q reaches is = elim (cases_lt (length taken) (length (before ++ log))) [

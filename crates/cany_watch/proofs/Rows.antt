@@ -1,4 +1,5 @@
--- Worked rows: the lines of nodes in two runs, and words of the command, computed from the definitions.
+-- Worked rows: the lines of nodes in two runs, and words of the command, computed from the
+-- definitions.
 use Rattle.std.specs.Prelude.{ℕ, ◌≡◌, List, [], ◌∷◌, None, Err, codes, refl}
 use Rattle.std.specs.Fmt.{digits}
 use Rattle.std.specs.List.{concat}

@@ -1,4 +1,5 @@
--- The rule of a book: its first word is the length of the line. A book has two words, of which this one leaves the second at 0.
+-- The rule of a book: its first word is the length of the line. A book has two words, of which this
+-- one leaves the second at 0.
 use Rattle.std.specs.Prelude.{ℕ, ◌≡◌, ◌==◌, true, List, [], ◌∷◌, ◌++◌, length, MatchBool}
 use Rattle.logbook.specs.Pages.{Cell, Step, View, Book, Named}
 use Rattle.cany_base.specs.declared.log_entry.LogEntry.{LogEntry}

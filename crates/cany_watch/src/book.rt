@@ -1,5 +1,5 @@
-//! The book of a node: its line as the proofs know it, of which threads share beginnings. It has one
-//! word, the length.
+//! The book of a node: its line as the proofs know it, of which threads share beginnings. It has
+//! one word, the length.
 use cany_base::LogEntry;
 use logbook::{Gain, Plain, Play, Rule};
 

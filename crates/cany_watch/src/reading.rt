@@ -11,8 +11,8 @@ use std::marker::Model;
 use std::sync::Wait;
 use std::thread;
 
-/// What a thread reads the line of a node with. Contracts see what it knows of the line: the longest
-/// list that it entered or learnt of.
+/// What a thread reads the line of a node with. Contracts see what it knows of the line: the
+/// longest list that it entered or learnt of.
 #[derive(Drop)]
 pub struct Reading {
     reader: Option<LineReader>,
@@ -76,10 +76,10 @@ impl Reading {
         }
     }
 
-    /// Enters one list that is published, appends its entries from the place `from` on, counted from
-    /// 0, as `Enter`, while there is room, and answers how many entries the list has. The list begins
-    /// with all that was known before. It takes no memory. It tries again where it cannot enter, so
-    /// it may wait.
+    /// Enters one list that is published, appends its entries from the place `from` on, counted
+    /// from 0, as `Enter`, while there is room, and answers how many entries the list has. The list
+    /// begins with all that was known before. It takes no memory. It tries again where it cannot
+    /// enter, so it may wait.
     pub fn read<R: Wait>(&mut self, rt: &R, from: usize, out: &mut Actions) -> usize
         ensures list { Follows self.old self.new }
         ensures len { result ≡ length self.new.entries }

@@ -1,4 +1,5 @@
--- Nodes of a run and their controllers, side by side: what is asked of the nodes can be asked of the controllers.
+-- Nodes of a run and their controllers, side by side: what is asked of the nodes can be asked of
+-- the controllers.
 use Rattle.std.proofs.Common.{◌≡◌, ℕ, suc, ◌+◌, ◌<◌, ◌≤◌, ◌==◌, ◌&&◌, ◌||◌, Bool, true, false, not, nat_lt, List, [], ◌∷◌, drop, drop-cons, length, map, refl, ap, sym, ◌∙◌, arith, add-one}
 use Rattle.std.specs.Prelude.{is_none, if◌then◌else◌, slice_get, Option, Some, None}
 use Rattle.std.specs.List.{list_any, list_all}

@@ -1,4 +1,5 @@
--- What a controller that is kept as a node of a run has unread, and how a slot, a restart and a turn keep it.
+-- What a controller that is kept as a node of a run has unread, and how a slot, a restart and a
+-- turn keep it.
 use Rattle.std.specs.Prelude.{◌≡◌, ℕ, zero, suc, ◌+◌, ◌-◌, ◌<◌, ◌≤◌, Bool, true, false, is_none, if◌then◌else◌, List, [], ◌∷◌, ◌++◌, length, map, reverse, take, drop, slice_get, Option, Some, None, refl}
 use Rattle.std.proofs.Common.{sym, ap, ◌∙◌, subst, arith, add-one}
 use Rattle.std.proofs.Math.Seq.{take-suc, take-length}

@@ -1,4 +1,5 @@
--- Each restart of a run has an entry of its own: a node has no more incarnations than entries and the first.
+-- Each restart of a run has an entry of its own: a node has no more incarnations than entries and
+-- the first.
 use Rattle.std.specs.Prelude.{◌≡◌, ℕ, ◌+◌, ◌-◌, ◌<◌, ◌≤◌, ◌==◌, ◌&&◌, Bool, true, false, List, [], ◌∷◌, Some, None, nat_le, length, count_by, if◌then◌else◌, refl}
 use Rattle.std.proofs.Common.{sym, ap, ◌∙◌, subst, inl, inr, arith}
 use Rattle.std.proofs.lemmas.Bool.{and_from, and_parts, cases_Bool, cases_eq, cases_lt, eqb-true, false≢true, le-leb, leb-true, lt-leb}
@@ -28,7 +29,8 @@ is_from_on t i ask = nat_le t ask.slot && ask.node == i
 abbrev pub entries_from : List NodeAsk → ℕ → ℕ → ℕ
 entries_from restarts t i = count_by (is_from_on t i) restarts
 
--- the first slot whose entries can still make node i start again: a stopped one may start at the end of the slot that ran last
+-- the first slot whose entries can still make node i start again: a stopped one may start at the
+-- end of the slot that ran last
 abbrev pub first_left : RunState → ℕ → ℕ
 first_left s i = if runs (node_at s.nodes i) then slots_run s else slots_run s - 1
 

@@ -1,4 +1,5 @@
--- What an incarnation hears of a slot is what the slot, as it sees it, gave its node, with an error as an idle slot.
+-- What an incarnation hears of a slot is what the slot, as it sees it, gave its node, with an error
+-- as an idle slot.
 use Rattle.std.proofs.Common.{◌≡◌, ℕ, zero, suc, ◌<◌, ◌==◌, ◌&&◌, ◌||◌, ◌⊎◌, inl, inr, not, nat_lt, Option, Some, None, refl, ap, sym, ◌∙◌, arith}
 use Rattle.std.proofs.lemmas.Bool.{cases_Bool, cond_both, eq-eqb}
 use Rattle.cany_base.specs.declared.notice.NoticeKind.{NoticeKind}

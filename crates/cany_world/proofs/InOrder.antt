@@ -1,4 +1,5 @@
--- The incarnations of the nodes of a run: their order, and that those that ended read slots of the run alone.
+-- The incarnations of the nodes of a run: their order, and that those that ended read slots of the
+-- run alone.
 use Rattle.std.specs.Prelude.{◌≡◌, ℕ, suc, ◌-◌, ◌<◌, ◌≤◌, List, [], ◌∷◌, length, refl}
 use Rattle.std.specs.List.{AllByRecursion}
 use Rattle.std.proofs.Common.{sym, ap, ◌∙◌, subst, inl, inr, arith}

@@ -130,7 +130,8 @@ pub is_running : (o : Option ℕ) (b : Bool) → is_some o ≡ not b → b ≡ t
 is_running None b e h = refl
 is_running (Some slot) b e h = absurd (true≢false (rw h at e))
 
--- the three ways in which the origin is done with its message: it has asked for it, has stopped, or came too late for it
+-- the three ways in which the origin is done with its message: it has asked for it, has stopped, or
+-- came too late for it
 pub done_by_three : (scenario : ScenarioParts) (s : RunState) (m : Message) (key : MsgKey) (c : ControllerState) (v : IncarnationsParts) (it : NodeParts) (asked : Bool)
     → IsKeptAs scenario s.trace m.origin (node_at s.nodes m.origin) c → IsKeptAt scenario s.trace m.origin (node_at s.nodes m.origin) v → slice_get v.nodes v.present ≡ Some it
     → Contains (messages_of scenario.sends) m → message_key m ≡ key
@@ -307,7 +308,8 @@ nothing_at_stopped scenario s i m c ctl b e h =
     stopped None e = absurd (true≢false (sym e))
     stopped (Some slot) e = refl
 
--- where no running node has anything to do or anything of the message ahead, it is settled as soon as it was asked for
+-- where no running node has anything to do or anything of the message ahead, it is settled as soon
+-- as it was asked for
 pub settled_where_nothing_to_do : (scenario : ScenarioParts) (journal : List Step) (m : Message) (service : Service) (key : MsgKey) (controllers : List ControllerState) (nodes : List IncarnationsParts)
     → IsAbout scenario journal m key controllers nodes → m.service ≡ service → HaveNothingToDo controllers → is_ahead scenario (run scenario journal) m ≡ false
     → is_settled scenario (run scenario journal) m ≡ is_asked scenario (run scenario journal) m

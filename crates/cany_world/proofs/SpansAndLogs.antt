@@ -1,4 +1,5 @@
--- What is told of the incarnations of a node: their spans, their logs, since when they take part, and which began at the end of a slot.
+-- What is told of the incarnations of a node: their spans, their logs, since when they take part,
+-- and which began at the end of a slot.
 use Rattle.std.proofs.Common.{◌≡◌, ℕ, zero, suc, ◌+◌, ◌-◌, ◌<◌, ◌≤◌, ◌==◌, ◌&&◌, ◌||◌, Bool, true, false, not, nat_lt, List, [], ◌∷◌, length, refl, ap, sym, ◌∙◌, arith, inl, inr}
 use Rattle.std.specs.Prelude.{slice_get, find, option_map, Some}
 use Rattle.std.specs.List.{AllByRecursion, list_any}

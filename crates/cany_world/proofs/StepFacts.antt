@@ -134,7 +134,8 @@ turn_answer scenario journal bus row row_read kept kept_read i r h same_row same
     let stands = read_stands scenario (run scenario journal) bus row row_read kept kept_read h same_row same_kept in
     turn_replies scenario (run scenario journal) (Turn i) i r refl (law scenario journal stands.controllers stands.nodes)
 
--- the world stays a run where this becomes of its journal, and these of its controllers and its nodes
+-- the world stays a run where this becomes of its journal, and these of its controllers and its
+-- nodes
 pub stays_run : (w v : Inside) (journal : List Step) (row : List ControllerState) (kept : List IncarnationsParts) → IsRun w → v.scenario ≡ w.scenario → v.script ≡ w.script
     → v.keys.items ≡ w.keys.items → v.actions ≡ w.actions → v.journal ≡ record { items = journal; room = w.journal.room } → IsLegal w.scenario journal
     → v.controllers.items ≡ row → v.nodes.items ≡ kept → StandFor w.scenario (run w.scenario journal) v.bus row kept → IsRun v

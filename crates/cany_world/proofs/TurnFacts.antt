@@ -84,7 +84,8 @@ turn_reply_is scenario s i c within kept = go c.stopped refl
         let here : (node_at s.nodes i).stopped ≡ None = sym kept.stopped ∙ e in
         rw (e, there, here) (by_unread c.unread c.read (node_at s.nodes i).unread (reads s i) (kept.all e) kept.read)
 
--- a turn that is made names the slot of its notice, which is the next that the controller has to read
+-- a turn that is made names the slot of its notice, which is the next that the controller has to
+-- read
 pub turned_slot : (it : NodeParts) (c : ControllerState) (out : Bounded Action) → CanTurn it c out → (slot : ℕ) → reply_of c ≡ Turned slot
     → slot ≡ c.read
 turned_slot it c out can slot h = go c.stopped (slice_get c.unread 0) refl h
@@ -103,7 +104,8 @@ turned_slot it c out can slot h = go c.stopped (slice_get c.unread 0) refl h
 seen_note : (inc : Incarnation) (trace : List SlotNote) (age : ℕ) → age < length trace → note_at (seen inc trace) age ≡ as_seen inc (note_at trace age)
 seen_note inc trace age within = get_or-map (as_seen inc) trace age no_note no_note within
 
--- what an incarnation of node i hears of its oldest unread notice is what its slot, as it sees it, gave the node
+-- what an incarnation of node i hears of its oldest unread notice is what its slot, as it sees it,
+-- gave the node
 pub heard_next : (scenario : ScenarioParts) (s : RunState) (i : ℕ) (v : IncarnationsParts) (notice : Notice) → IsOrderly scenario.params.nodes s
     → (kept : IsKeptAt scenario s.trace i (node_at s.nodes i) v) → IsOldest s.trace i (node_at s.nodes i) notice
     → (heard_by kept.present.it notice).kind ≡ error_as_idle (given i (as_seen (node_at s.nodes i).present (note_at s.trace (next_age s i))))

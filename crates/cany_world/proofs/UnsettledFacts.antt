@@ -1,5 +1,5 @@
--- Why a message is not settled: what the controllers and the nodes tell of it, and that nobody waits, or has anything ahead, exactly
--- where the set of those that do is empty.
+-- Why a message is not settled: what the controllers and the nodes tell of it, and that nobody
+-- waits, or has anything ahead, exactly where the set of those that do is empty.
 use Rattle.std.proofs.Common.{◌≡◌, ℕ, zero, suc, ◌+◌, ◌^◌, ◌<◌, ◌≤◌, ◌↔◌, ◌&&◌, ◌||◌, ◌==◌, Bool, true, false, not, nat_lt, List, [], ◌∷◌, length, get_or, All, refl, ap, sym, subst, ◌∙◌, arith, inl, inr}
 use Rattle.std.specs.Prelude.{Some, None, Option, is_none, is_some}
 use Rattle.std.specs.List.{list_any, range_with_len}

@@ -17,8 +17,8 @@ use Rattle.cany_node.specs.declared.reply.TurnReply.TheVariants.{Turned, Nothing
 use Rattle.cany_node.specs.Node.{NodeParts, CanBegin, CanTurn, IsNodeOf, IsTurnOf, IsWaiting}
 use Rattle.cany_world.specs.Places.{AreOfNodes}
 
--- the node as each of its incarnations, by their numbers; the span of each, final for those that have ended; and the number of
--- the present one
+-- the node as each of its incarnations, by their numbers; the span of each, final for those that
+-- have ended; and the number of the present one
 pub record IncarnationsParts : Type 0 where
   pub nodes : List NodeParts
   pub spans : List Span

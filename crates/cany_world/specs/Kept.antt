@@ -33,8 +33,8 @@ notice_in i note = record { slot = note.slot; kind = given i note }
 unfoldable pub newest_notices : ℕ → ℕ → List SlotNote → List Notice
 newest_notices i count trace = reverse (map (notice_in i) (take count trace))
 
--- The controller of node i, where the run has this trace and this state of the node. A controller that has stopped gets no
--- more notices, but what it had before is there.
+-- The controller of node i, where the run has this trace and this state of the node. A controller
+-- that has stopped gets no more notices, but what it had before is there.
 pub record IsKeptAs (scenario : ScenarioParts) (trace : List SlotNote) (i : ℕ) (node : NodeState) (c : ControllerState) : Type 0 where
   pub number : c.node ≡ i
   pub params : c.params ≡ scenario.params
@@ -47,7 +47,8 @@ pub record IsKeptAs (scenario : ScenarioParts) (trace : List SlotNote) (i : ℕ)
   pub unread : c.unread ≡ take (length c.unread) (newest_notices i node.unread trace)
   pub all : c.stopped ≡ None → length c.unread ≡ node.unread
 
--- what the present incarnation of node i has read: the history of a run, from its trace and its state of the node
+-- what the present incarnation of node i has read: the history of a run, from its trace and its
+-- state of the node
 abbrev pub past_of : ℕ → List SlotNote → NodeState → List NoticeKind
 past_of i trace node = map (given i) (drop node.unread (seen node.present trace))
 
@@ -55,7 +56,8 @@ past_of i trace node = map (given i) (drop node.unread (seen node.present trace)
 abbrev pub heard_of : ℕ → List SlotNote → NodeState → List NoticeKind
 heard_of i trace node = map error_as_idle (past_of i trace node)
 
--- the present incarnation stands for what it has heard, and hears vectors from its first membership cycle on
+-- the present incarnation stands for what it has heard, and hears vectors from its first membership
+-- cycle on
 pub record IsPresentAt (scenario : ScenarioParts) (trace : List SlotNote) (i : ℕ) (node : NodeState) (v : IncarnationsParts) : Type 0 where
   pub it : NodeParts
   pub at : slice_get v.nodes v.present ≡ Some it
@@ -86,8 +88,8 @@ pub record IsWaitingAt (scenario : ScenarioParts) (i : ℕ) (v : IncarnationsPar
   pub span_at : slice_get v.spans number ≡ Some span
   pub unset : span.since ≡ 0
 
--- The incarnations of node i, where the run has this trace and this state of the node: one for the opening, and one for each
--- restart entry of the node.
+-- The incarnations of node i, where the run has this trace and this state of the node: one for the
+-- opening, and one for each restart entry of the node.
 pub record IsKeptAt (scenario : ScenarioParts) (trace : List SlotNote) (i : ℕ) (node : NodeState) (v : IncarnationsParts) : Type 0 where
   pub whole : length v.nodes ≡ count_by (is_ask_of_node i) scenario.restarts + 1
   pub spans : length v.spans ≡ length v.nodes

@@ -11,7 +11,8 @@ use Rattle.can_controller.specs.Controller.{ControllerState, HasStoppedBy, resta
 use Rattle.cany_world.specs.Incarnations.{IncarnationsParts, CanRestart, IsRestarted}
 use Rattle.cany_world.specs.Kept.{AreControllersOf, AreNodesOf}
 
--- whether node i starts again at the end of the slot: its controller has stopped, and an entry names it
+-- whether node i starts again at the end of the slot: its controller has stopped, and an entry
+-- names it
 abbrev pub starts : List NodeAsk → ℕ → ℕ → ControllerState → Bool
 starts restarts slot i c = not (is_none c.stopped) && names_restart restarts slot i
 
@@ -24,7 +25,8 @@ pub record MayStart (slot : ℕ) (c : ControllerState) (v : IncarnationsParts) :
 abbrev pub IsAfterEntries : Bool → ℕ → ControllerState → ControllerState → IncarnationsParts → IncarnationsParts → Type 0
 IsAfterEntries begins slot c c' v v' = MatchBool begins ((c' ≡ restarted_at slot c) × IsRestarted slot c.stopped c.read v v') ((c' ≡ c) × (v' ≡ v))
 
--- the restarts can be made: some journal leads to a state, and its slot to the one that the controllers and the nodes stand for
+-- the restarts can be made: some journal leads to a state, and its slot to the one that the
+-- controllers and the nodes stand for
 pub record CanRestartAll (restarts : List NodeAsk) (slot : ℕ) (row : List ControllerState) (kept : List IncarnationsParts) : Type 0 where
   pub scenario : ScenarioParts
   pub legal : IsLegalScenario scenario

@@ -1,4 +1,5 @@
--- A stretch of idle slots: when no node has anything to do before the last one, and what the program makes of its controllers and nodes then.
+-- A stretch of idle slots: when no node has anything to do before the last one, and what the
+-- program makes of its controllers and nodes then.
 use Rattle.std.specs.Prelude.{◌≡◌, ℕ, zero, suc, ◌+◌, ◌-◌, ◌^◌, ◌<◌, ◌≤◌, Bool, true, false, is_none, if◌then◌else◌, List, [], ◌∷◌, ◌++◌, Option, Some, None, length, filter, map, slice_get, slice_set}
 use Rattle.std.specs.List.{range_with_len}
 use Rattle.std.specs.Option.{option_map_or}
@@ -53,7 +54,8 @@ HaveNothingToDo controllers = (i : ℕ) (c : ControllerState) → slice_get cont
 abbrev pub IncarnationRests : ℕ → IncarnationsParts → Type 0
 IncarnationRests end v = (it : NodeParts) → slice_get v.nodes v.present ≡ Some it → RestsUntil end it
 
--- a controller and its node wait with nothing and have read all, and in so many idle slots from the next one on they do nothing
+-- a controller and its node wait with nothing and have read all, and in so many idle slots from the
+-- next one on they do nothing
 pub record IsIdleFor (next slots : ℕ) (c : ControllerState) (v : IncarnationsParts) : Type 0 where
   pub waiting : c.waiting ≡ []
   pub unread : c.unread ≡ []
@@ -80,18 +82,21 @@ pub record HaveRested (slots : ℕ) (c c' : ControllerState) (v v' : Incarnation
   pub controller : c' ≡ record c { read = c.read + slots }
   pub node : HasPassed slots v v'
 
--- the controller after so many idle slots from the next one on, whose notices were read, and one more, whose notice was not
+-- the controller after so many idle slots from the next one on, whose notices were read, and one
+-- more, whose notice was not
 abbrev pub noticed : ℕ → ℕ → ControllerState → ControllerState
 noticed next slots c = seen (next + slots) Idle (record c { read = c.read + slots })
 
--- a controller and its node have passed all but the last of so many slots, and in the last one the node took its turn
+-- a controller and its node have passed all but the last of so many slots, and in the last one the
+-- node took its turn
 pub record HasTakenTurn (next slots : ℕ) (c c' : ControllerState) (v v' : IncarnationsParts) : Type 0 where
   pub before : IncarnationsParts
   pub passed : HasPassed (slots - 1) v before
   pub turn : (it : NodeParts) → slice_get before.nodes before.present ≡ Some it → (scenario : ScenarioParts) (past : List NoticeKind) (notice : Notice)
       → Reads scenario past notice it (noticed next (slots - 1) c) → HasTurned scenario past notice it before v' (noticed next (slots - 1) c) c'
 
--- a controller and its node have passed so many slots, if it runs, and the node took its turn in the last one, if it is due
+-- a controller and its node have passed so many slots, if it runs, and the node took its turn in
+-- the last one, if it is due
 abbrev pub HavePassed : ℕ → ℕ → Option ℕ → Bool → ControllerState → ControllerState → IncarnationsParts → IncarnationsParts → Type 0
 HavePassed next slots None true c c' v v' = HasTakenTurn next slots c c' v v'
 HavePassed next slots None false c c' v v' = HaveRested slots c c' v v'

@@ -36,7 +36,8 @@ has_ahead scenario s m i = runs (node_at s.nodes i) && is_ahead_at (scenario_at 
 
 -- ---- why a message is not settled
 
--- whether the message is to be asked for yet: its origin runs, takes part since the scripted slot, and has not asked for it
+-- whether the message is to be asked for yet: its origin runs, takes part since the scripted slot,
+-- and has not asked for it
 abbrev pub is_queued : ScenarioParts → RunState → Message → Bool
 is_queued scenario s m = not (is_asked scenario s m)
 
@@ -64,7 +65,8 @@ is_finished f service.Ed = f.ed
 is_finished f service.Rel = f.rel
 is_finished f service.Tot = f.tot
 
--- a message of such a service is settled as soon as its origin has asked for it, has stopped, or came too late for it
+-- a message of such a service is settled as soon as its origin has asked for it, has stopped, or
+-- came too late for it
 abbrev pub IsFinished : ScenarioParts → RunState → FinishedParts → Type 0
 IsFinished scenario s finished =
     (m : Message) → Contains (messages_of scenario.sends) m → is_finished finished m.service ≡ true → is_settled scenario s m ≡ is_asked scenario s m

@@ -1,4 +1,5 @@
--- What a contract sees of a world: the scenario, and the steps that were made, which fix everything else.
+-- What a contract sees of a world: the scenario, and the steps that were made, which fix everything
+-- else.
 use Rattle.std.specs.Prelude.{List}
 use Rattle.cany_base.specs.declared.step.Step.{Step}
 use Rattle.cany_base.specs.Scenario.{ScenarioParts}

@@ -11,7 +11,8 @@ use Rattle.cany_world.specs.World.{WorldParts, state_of}
 abbrev pub world_parts : Inside → WorldParts
 world_parts w = record { scenario = w.scenario; journal = w.journal.items }
 
--- the journal has only steps that were done, and room for a slot and a turn of each node in each slot of the run
+-- the journal has only steps that were done, and room for a slot and a turn of each node in each
+-- slot of the run
 pub record IsRun (w : Inside) : Type 0 where
   pub legal : IsLegalScenario w.scenario
   pub opening : w.scenario.inc ≡ 0

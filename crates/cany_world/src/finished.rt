@@ -67,8 +67,8 @@ fn nothing_is_ahead(service: Service, controllers: &[Controller], nodes: &[Incar
     true
 }
 
-/// Whether nothing more is to come of a message of this service once it was asked for: every running
-/// node has read every notice, waits with no frame and has nothing of such a message ahead.
+/// Whether nothing more is to come of a message of this service once it was asked for: every
+/// running node has read every notice, waits with no frame and has nothing of such a message ahead.
 fn nothing_is_to_come(service: Service, controllers: &[Controller], nodes: &[Incarnations]) -> bool
     requires { length controllers.now ≡ length nodes.now }
     ensures { result ≡ true → (scenario : ScenarioParts) (journal : List Step) (m : Message) (key : MsgKey) → IsAbout scenario journal m key controllers.now nodes.now

@@ -379,8 +379,8 @@ impl World {
         }
     }
 
-    /// Whether the message of a scripted send, by its place in the file, is to be asked for yet: its
-    /// origin runs, takes part since the scripted slot, and has not asked for it.
+    /// Whether the message of a scripted send, by its place in the file, is to be asked for yet:
+    /// its origin runs, takes part since the scripted slot, and has not asked for it.
     ///
     /// Where all is read, a message is settled if it is not queued, nobody waits with a frame of it
     /// and nobody has anything of it ahead.

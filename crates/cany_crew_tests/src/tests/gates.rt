@@ -62,8 +62,8 @@ fn meetings(alloc: Global, asked: &AtomicU64) -> Result<Vec<Meeting<'_>>, AllocE
     Ok(gates)
 }
 
-/// A run of three nodes with these gates. It is a function of its own since the contract of the call
-/// is long.
+/// A run of three nodes with these gates. It is a function of its own since the contract of the
+/// call is long.
 fn run_of_three<R: Threads + Wait + Sync>(
     rt: &R,
     alloc: Global,

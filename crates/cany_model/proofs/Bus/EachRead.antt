@@ -1,4 +1,5 @@
--- What each notice has that a node has read, in its slot: by the slots of the trace, as its incarnation sees them.
+-- What each notice has that a node has read, in its slot: by the slots of the trace, as its
+-- incarnation sees them.
 use Rattle.std.proofs.Common.{◌≡◌, ℕ, zero, suc, List, [], ◌∷◌, map, drop, length, Contains, ap, sym, ◌∙◌, subst}
 use Rattle.std.proofs.lemmas.List.{length-map}
 use Rattle.cany_base.specs.declared.notice.NoticeKind.{NoticeKind}

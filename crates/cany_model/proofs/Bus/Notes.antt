@@ -1,4 +1,5 @@
--- What the note of a slot says: who offered the frame, who sent and accepted it, and what the slot gave a node.
+-- What the note of a slot says: who offered the frame, who sent and accepted it, and what the slot
+-- gave a node.
 use Rattle.std.specs.Prelude.{◌≡◌, ℕ, suc, ◌<◌, Bool, true, false, not, ◌&&◌, if◌then◌else◌, List, [], ◌∷◌, Option, Some, None, length, Contains, ◌⊎◌, refl}
 use Rattle.cany_base.specs.Limits.{most_nodes}
 use Rattle.std.specs.List.{flat_map}
@@ -180,7 +181,8 @@ running_takes rules s f i few h running silent lets =
 
 -- ---- what a slot gave a node
 
--- the notice of a share, by the answers to: did the node send, was it a success, did it accept the frame
+-- the notice of a share, by the answers to: did the node send, was it a success, did it accept the
+-- frame
 abbrev notice_by : Bool → Bool → Bool → FrameParts → NoticeKind
 notice_by sent success took f = notice_of (if sent then (if success then Confirmed f else Errored) else if took then Took f else Rejected)
 

@@ -1,4 +1,5 @@
--- The trace as an incarnation sees it: idle before its first slot, and where a slot carries a vector of a cycle before its first.
+-- The trace as an incarnation sees it: idle before its first slot, and where a slot carries a
+-- vector of a cycle before its first.
 use Rattle.std.proofs.Common.{◌≡◌, ℕ, zero, suc, ◌-◌, ◌<◌, ◌≤◌, ◌==◌, ◌||◌, ◌⊎◌, inl, inr, Bool, true, false, not, nat_lt, if◌then◌else◌, List, [], ◌∷◌, map, drop, take, length, None, Some, refl, ap, sym, ◌∙◌, subst, arith}
 use Rattle.std.proofs.lemmas.Bool.{and_from, and_parts, and_right, cases_Bool, eq-eqb, eqb-false, le-ltb, lt-ltb, ltb-true, ne_eqb, not-true, not_from_false, or_cases, or_left, or_right}
 use Rattle.std.proofs.lemmas.List.{length-map}

@@ -1,6 +1,7 @@
--- Agreement on a frame that is diffused, once nobody waits with it and all is read: more than omit copies include a Clean one,
--- and a frame that was asked for and no longer waits was carried Clean, or was withdrawn for that reason. So where a node was to
--- send it, a slot carried it Clean, and every node that runs and took part since then got or sent it there.
+-- Agreement on a frame that is diffused, once nobody waits with it and all is read: more than omit
+-- copies include a Clean one, and a frame that was asked for and no longer waits was carried Clean,
+-- or was withdrawn for that reason. So where a node was to send it, a slot carried it Clean, and
+-- every node that runs and took part since then got or sent it there.
 use Rattle.std.proofs.Common.{◌≡◌, ℕ, ◌≤◌, ◌⊎◌, inr, true, false, List, Some, None, ap, subst, sym, ◌∙◌, arith}
 use Rattle.cany_base.specs.declared.class.Class.TheVariants as class
 use Rattle.cany_base.specs.Limits.{most_nodes}
@@ -82,7 +83,8 @@ visible P x trace first inc carries heard numbered is from h =
     (k.0, hidden_not inc note (omega (arith, late, from)) (carries_plain x inc note heard (carries note k.0)))) trace
     (Among-with P (λ note. Carries x note → first ≤ note.slot) trace (first_is_first x trace numbered first is) h))
 
--- what was carried Clean, every correct node that took part since then has got, or may start and has sent
+-- what was carried Clean, every correct node that took part since then has got, or may start and
+-- has sent
 pub carried_read : (scenario : ScenarioParts) (x : Identity) (duty : ScenarioParts → Duty) (s : RunState) → IsAtRest scenario x duty s → (first : ℕ)
     → first_carried x s.trace ≡ Some first → (j : ℕ) → IsCorrectFrom scenario s first j → Among (CarriesClean x) s.trace
     → Among (λ e. is_got x e ≡ true) (history j s)
@@ -95,7 +97,8 @@ carried_read scenario x duty s rest first is j correct clean =
     (node_at s.nodes j) (rest.diffuses j running) (omega (arith, correct.correct.there, rest.few)) (rest.read j running)
     (visible (CarriesClean x) x s.trace first inc (λ note c. c.carries) rest.heard rest.numbered is correct.took_part clean))
 
--- a correct node that took part since then, and was a sender, owed the frame, so it was carried Clean
+-- a correct node that took part since then, and was a sender, owed the frame, so it was carried
+-- Clean
 pub sent_carried : (scenario : ScenarioParts) (x : Identity) (duty : ScenarioParts → Duty) (s : RunState) → IsAtRest scenario x duty s → (first : ℕ)
     → first_carried x s.trace ≡ Some first → (i : ℕ) → IsCorrectFrom scenario s first i → Among (SentBy i x) s.trace → Among (CarriesClean x) s.trace
 sent_carried scenario x duty s rest first is i correct sent =

@@ -1,5 +1,5 @@
--- Agreement on a message whose data frame is diffused and that is delivered at once: the frame is agreed on, and who got it or
--- sent it as its origin has delivered it.
+-- Agreement on a message whose data frame is diffused and that is delivered at once: the frame is
+-- agreed on, and who got it or sent it as its origin has delivered it.
 use Rattle.std.proofs.Common.{◌≡◌, ℕ, ◌<◌, ◌≤◌, ◌==◌, ◌&&◌, ◌⊎◌, inl, inr, true, false, not, nat_lt, List, length, drop, Contains, Option, Some, None, refl, ap, sym, ◌∙◌, subst, arith, ltb-false}
 use Rattle.cany_base.specs.Limits.{most_nodes}
 use Rattle.std.proofs.lemmas.Bool.{or_left, or_right, and_from, and_parts, cases_eq, eq-eqb, ltb-true, not-true}
@@ -56,7 +56,8 @@ data_is_heard Ed = refl
 data_is_heard Rel = refl
 data_is_heard Tot = refl
 
--- which nodes are to send the frame of the message, by the scenario that their incarnation follows and what they have read
+-- which nodes are to send the frame of the message, by the scenario that their incarnation follows
+-- and what they have read
 abbrev pub Owes : Type 1
 Owes = ScenarioParts → ℕ → List NoticeKind → Type 0
 
@@ -192,7 +193,8 @@ never_delivered scenario m s never i h =
 
 -- ---- from a Clean slot to every log
 
--- what was carried Clean, every correct node that takes part since the first slot that carried it has read
+-- what was carried Clean, every correct node that takes part since the first slot that carried it
+-- has read
 carried_brought : (scenario : ScenarioParts) (m : Message) (owes : Owes) (s : RunState) → Ground scenario m owes s → (first : ℕ)
     → first_carried (data_id m) s.trace ≡ Some first → (j : ℕ) → IsCorrectFrom scenario s first j
     → Among (CarriesClean (data_id m)) s.trace → Among (λ e. brings j (data_id m) e ≡ true) (history j s)

@@ -1,4 +1,5 @@
--- Where confirmations come from: of each that waits or was carried, a slot had carried the message's data frame with success.
+-- Where confirmations come from: of each that waits or was carried, a slot had carried the
+-- message's data frame with success.
 use Rattle.std.specs.Prelude.{◌≡◌, ℕ, ◌≤◌, List, ◌∷◌, None, length, refl}
 use Rattle.cany_base.specs.Limits.{most_nodes}
 use Rattle.std.specs.List.{AllByRecursion}

@@ -1,5 +1,6 @@
--- Eager diffusion: a node that is to send a frame waits with it, or the frame was carried with success, or the node read
--- more than omit copies of it. All of it is said of the trace, a node's number and that node's state.
+-- Eager diffusion: a node that is to send a frame waits with it, or the frame was carried with
+-- success, or the node read more than omit copies of it. All of it is said of the trace, a node's
+-- number and that node's state.
 use Rattle.std.proofs.Common.{◌≡◌, ℕ, ◌<◌, ◌≤◌, ◌⊎◌, inl, inr, true, false, List, ◌∷◌, map, drop, Some, Contains, ap, sym, subst, arith, suc}
 use Rattle.cany_base.specs.Limits.{most_nodes}
 use Rattle.std.specs.List.{AllByRecursion}
@@ -44,7 +45,8 @@ pub record Duty : Type 1 where
   -- what a node has read that has only begun, at the opening or by a restart
   pub begins : List NoticeKind → Type 0
 
--- in the turn of the notice the node asks for the frame, unless the copies are enough or it has sent the frame
+-- in the turn of the notice the node asks for the frame, unless the copies are enough or it has
+-- sent the frame
 abbrev pub IsAnswered : (turn : ℕ → List NoticeKind → List Effect) (omit : ℕ) (x : Identity) (i : ℕ) (e : NoticeKind) (past : List NoticeKind) → Type 0
 IsAnswered turn omit x i e past =
     Among (Asks x) (turn i (e ∷ past)) ⊎ ((omit < copies x (e ∷ past)) ⊎ (has_own x (e ∷ past) ≡ true))
@@ -213,7 +215,8 @@ got_or_sent i x note few c heard = elim (heard.clean few c.carries.what c.carrie
   )
 ]
 
--- so of a frame that was carried Clean, a node that runs and has read every notice has got it, or may start it and has sent it
+-- so of a frame that was carried Clean, a node that runs and has read every notice has got it, or
+-- may start it and has sent it
 pub carried_is_read : (turn : ℕ → List NoticeKind → List Effect) (omit : ℕ) (x : Identity) (duty : Duty) → IsDiffused turn omit x duty
     → (trace : List SlotNote) (i : ℕ) (node : NodeState) → Diffuses omit x duty trace i node → i < most_nodes → node.unread ≡ 0 → Among (CarriesClean x) trace
     → Among (λ e. is_got x e ≡ true) (past_of i trace node) ⊎ (duty.starts i (past_of i trace node) × Among (λ e. is_sent x e ≡ true) (past_of i trace node))

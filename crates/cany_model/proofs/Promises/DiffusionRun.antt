@@ -1,4 +1,5 @@
--- Eager diffusion along a run: what `Diffusion` says of each running node, by what its incarnation sees, at every verdict rule.
+-- Eager diffusion along a run: what `Diffusion` says of each running node, by what its incarnation
+-- sees, at every verdict rule.
 use Rattle.std.proofs.Common.{◌≡◌, ℕ, inl, inr, true, List, [], ◌∷◌, None, Some, subst, sym}
 use Rattle.std.specs.List.{AllByRecursion}
 use Rattle.std.proofs.lemmas.Bool.{false≢true}

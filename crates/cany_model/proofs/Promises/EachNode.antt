@@ -1,5 +1,6 @@
--- How a fact about each running node is proved of every run: of a node that begins, at the opening or by a restart; of what a slot makes of a
--- node; and of what a turn makes of it. It speaks of the trace as the node's incarnation sees it.
+-- How a fact about each running node is proved of every run: of a node that begins, at the opening
+-- or by a restart; of what a slot makes of a node; and of what a turn makes of it. It speaks of the
+-- trace as the node's incarnation sees it.
 use Rattle.std.proofs.Common.{◌≡◌, ℕ, ◌+◌, ◌-◌, ◌<◌, ◌≤◌, ◌⊎◌, inl, inr, true, List, [], ◌∷◌, Some, None, map, drop, length, refl, ap, sym, ◌∙◌, subst, add-one, arith}
 use Rattle.std.specs.List.{AllByRecursion}
 use Rattle.std.proofs.lemmas.Bool.{both_ways, cases_Bool}
@@ -194,7 +195,8 @@ pub record IsNodes (scenario : ScenarioParts) (P : List SlotNote → ℕ → Nod
   pub turn : (trace : List SlotNote) (i : ℕ) (node after : NodeState) → after.present ≡ node.present
       → Turned (turn_effects (scenario_for scenario node.present)) trace i node after → P trace i node → P trace i after
 
--- what holds of each node that ran, with the slot that it has lived, holds of each that runs after the slot
+-- what holds of each node that ran, with the slot that it has lived, holds of each that runs after
+-- the slot
 pub each_slot : (P : List SlotNote → ℕ → NodeState → Type 0) (rules : FaultScript) (s : RunState)
     → ((i : ℕ) → runs (node_at s.nodes i) ≡ true → (node_at (after_slot rules s).nodes i).present ≡ (node_at s.nodes i).present
     → P (seen (node_at s.nodes i).present (slot_note_of rules s ∷ s.trace)) i (node_at (after_slot rules s).nodes i))
@@ -224,7 +226,8 @@ each_restarts scenario P is_new s o some all i running =
       | inr same ↦ rw same (all i (sym (ap (λ node. runs node) same) ∙ running))
     ])
 
--- what holds of the node that took the turn, by what its incarnation saw before it, and held of each that ran, holds of each that runs after it
+-- what holds of the node that took the turn, by what its incarnation saw before it, and held of
+-- each that ran, holds of each that runs after it
 pub each_turn : (scenario : ScenarioParts) (P : List SlotNote → ℕ → NodeState → Type 0) (s : RunState) (i : ℕ) → MayTurn s i
     → (node_at s.nodes i).unread ≤ length s.trace
     → P (seen (node_at s.nodes i).present s.trace) i (node_at (after_turn scenario i s).nodes i)
@@ -241,7 +244,8 @@ nodes_turn scenario P is s i may short all =
     (is.turn (seen (node_at s.nodes i).present s.trace) i (node_at s.nodes i) (node_at (after_turn scenario i s).nodes i)
     (after_turn-present scenario i s i may short) (turn_turned scenario i s may short) (all i may.running)) all
 
--- what holds of a node that begins, and is kept by its slots and its turns, is kept of each running node by each step
+-- what holds of a node that begins, and is kept by its slots and its turns, is kept of each running
+-- node by each step
 pub nodes_kept : (scenario : ScenarioParts) (P : List SlotNote → ℕ → NodeState → Type 0) → IsNodes scenario P
     → IsKept scenario (λ s. AllWaitForOwnSlots s × EachRunning P s)
 nodes_kept scenario P is = own_slots_alone_kept scenario (EachRunning P) (record {

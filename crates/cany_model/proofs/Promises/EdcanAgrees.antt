@@ -30,7 +30,8 @@ use Rattle.cany_model.proofs.Rules.IdleBeforeTakingPart.{begun_copies, begun_sho
 use Rattle.cany_model.proofs.Rules.ProtocolFacts.{MayStart, is_diffused}
 use Rattle.cany_model.proofs.Rules.Protocols.{edcan_is_one}
 
--- a node is to send the frame of an EDCAN message once it got a copy, or as origin once it has read its slot
+-- a node is to send the frame of an EDCAN message once it got a copy, or as origin once it has read
+-- its slot
 abbrev pub OwesEd : Message → Owes
 OwesEd m scenario i past = (0 < copies (data_id m) past) ⊎ MayStart scenario m i past
 

@@ -1,8 +1,11 @@
--- Of the life signs that a node asks for at most two wait at any moment, where the life interval is longer than the lag.
+-- Of the life signs that a node asks for at most two wait at any moment, where the life interval is
+-- longer than the lag.
 --
--- Two asks of a node lie more than an interval apart, so when it asks, it has read each of its signs that was sent before its last ask. If none
--- was sent since, it asks for the same sign again. If one of two was, this was the elder, since a node sends the first of its waiting frames;
--- where the node has not read so yet, the younger is what it asks for again, and else it asks for a second one.
+-- Two asks of a node lie more than an interval apart, so when it asks, it has read each of its
+-- signs that was sent before its last ask. If none was sent since, it asks for the same sign again.
+-- If one of two was, this was the elder, since a node sends the first of its waiting frames; where
+-- the node has not read so yet, the younger is what it asks for again, and else it asks for a
+-- second one.
 use Rattle.std.proofs.Common.{◌≡◌, ℕ, zero, suc, ◌+◌, ◌-◌, ◌<◌, ◌≤◌, ◌⊎◌, inl, inr, true, false, List, [], ◌∷◌, ◌++◌, map, drop, length, count_by, ap, sym, ◌∙◌, subst, arith, length-drop, le_of_suc-le-suc}
 use Rattle.std.specs.List.{AllByRecursion}
 use Rattle.std.proofs.lemmas.Bool.{cases_Bool, cases_eq}
@@ -53,8 +56,8 @@ fewer_before i (suc a) (suc b) (note ∷ trace) l = fewer_before i a b trace (le
 abbrev waiting_signs : NodeState → ℕ
 waiting_signs node = count_by is_els node.waiting
 
--- Two were waiting at the last ask, when so many had been sent and read. The one that was asked for then is the younger, and waits still: two
--- wait, or it alone where the elder was sent since.
+-- Two were waiting at the last ask, when so many had been sent and read. The one that was asked for
+-- then is the younger, and waits still: two wait, or it alone where the elder was sent since.
 record AreTwo (i number : ℕ) (trace : List SlotNote) (node : NodeState) : Type 0 where
   pub count : waiting_signs node + signs_in i trace ≤ number + 2
   pub waits : waits (own_sign i number) node.waiting ≡ true
@@ -64,8 +67,8 @@ record AreTwo (i number : ℕ) (trace : List SlotNote) (node : NodeState) : Type
 abbrev pub last_life : ScenarioParts → Incarnation → ℕ → List NoticeKind → ℕ
 last_life scenario inc i past = (knowledge_of (scenario_for scenario inc) i past).last
 
--- What holds since the last ask. It was made in the turn of this slot, when no more slots than the lag has had run past it, and so many ran
--- since.
+-- What holds since the last ask. It was made in the turn of this slot, when no more slots than the
+-- lag has had run past it, and so many ran since.
 record SinceAsk (scenario : ScenarioParts) (trace : List SlotNote) (i : ℕ) (node : NodeState) : Type 0 where
   pub age : ℕ
   pub slot : ℕ

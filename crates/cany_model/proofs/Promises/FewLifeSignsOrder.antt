@@ -1,4 +1,5 @@
--- The frame of a slot is before no other that a running node waits with, so a node sends the first of its waiting frames.
+-- The frame of a slot is before no other that a running node waits with, so a node sends the first
+-- of its waiting frames.
 use Rattle.std.proofs.Common.{◌≡◌, ℕ, zero, suc, ◌==◌, Bool, true, false, not, nat_lt, List, [], ◌∷◌, ◌++◌, refl, ap, sym, subst, ◌∙◌, arith}
 use Rattle.std.specs.Prelude.{Option, Some, None, if◌then◌else◌}
 use Rattle.std.specs.List.{AllByRecursion, flat_map}

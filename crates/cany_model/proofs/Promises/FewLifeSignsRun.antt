@@ -1,5 +1,6 @@
--- How a fact about each running node is proved of every run, where its proof rests on two things more: that a node sends the first of its
--- waiting frames, and that it has few notices unread after a turn.
+-- How a fact about each running node is proved of every run, where its proof rests on two things
+-- more: that a node sends the first of its waiting frames, and that it has few notices unread after
+-- a turn.
 use Rattle.std.proofs.Common.{◌≡◌, ℕ, ◌≤◌, true, List, ◌∷◌, Some, None, ap, arith}
 use Rattle.cany_base.specs.declared.notice.NoticeKind.TheVariants.{Sent}
 use Rattle.cany_base.specs.declared.slot_note.SlotNote.{SlotNote}

@@ -1,5 +1,5 @@
--- The life signs that wait at a node, as a slot and a turn change them: one that is sent is taken away, and one at most is asked for, which
--- takes the place of one of its number.
+-- The life signs that wait at a node, as a slot and a turn change them: one that is sent is taken
+-- away, and one at most is asked for, which takes the place of one of its number.
 use Rattle.std.proofs.Common.{◌≡◌, ℕ, suc, ◌≤◌, ◌⊎◌, inl, inr, true, false, not, List, [], ◌∷◌, ◌++◌, length, count_by, refl, ap, sym, ◌∙◌, arith}
 use Rattle.std.specs.List.{AllByRecursion}
 use Rattle.std.proofs.lemmas.Bool.{both_ways, cases_Bool, cond_both, cond-false, cond-true, false≢true, not-true}
@@ -55,7 +55,8 @@ not_lower : (f g : FrameParts) → is_els f ≡ true → is_els g ≡ true → i
 unfolding is_before same_class
 not_lower f g one other h = grind (arith, nat_tests)
 
--- The sign of the greatest number is sent only where it is the last, since those of lower numbers go first.
+-- The sign of the greatest number is sent only where it is the last, since those of lower numbers
+-- go first.
 pub greatest_last : (i number : ℕ) (f : FrameParts) (w : List FrameParts) → own_sign i number ≡ identity_of f → NoneBefore f w
     → AllByRecursion (IsOwnSign i number) w → count_by is_els (without (identity_of f) w) ≡ 0
 greatest_last i number f w same first own = none_left (identity_of f) w (each w first own)

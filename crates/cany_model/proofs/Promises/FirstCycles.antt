@@ -1,4 +1,5 @@
--- The first membership cycle of a restarted node is the first that does not start before its first slot.
+-- The first membership cycle of a restarted node is the first that does not start before its first
+-- slot.
 use Rattle.std.proofs.Common.{◌≡◌, ℕ, ◌<◌, ◌≤◌, inl, inr, List, length, refl, sym, subst, arith}
 use Rattle.std.proofs.lemmas.Bool.{cases_lt}
 use Rattle.std.proofs.lemmas.List.{length-replicate}

@@ -1,5 +1,6 @@
--- While vectors of a cycle are exchanged, each vector of the cycle that a node waits with or has sent has all nodes of its present one:
--- the node sends the one that it has after a turn, and that only loses nodes.
+-- While vectors of a cycle are exchanged, each vector of the cycle that a node waits with or has
+-- sent has all nodes of its present one: the node sends the one that it has after a turn, and that
+-- only loses nodes.
 use Rattle.std.proofs.Common.{◌≡◌, ℕ, suc, ◌*◌, ◌≤◌, ◌⊎◌, inl, inr, true, false, List, ◌∷◌, drop, length, Option, Some, None, ap, sym, subst, arith}
 use Rattle.std.specs.List.{AllByRecursion}
 use Rattle.std.proofs.lemmas.Bool.{cases_lt}
@@ -142,7 +143,8 @@ carries_met scenario i e past (Some v) (Some w) f h = record {
   had = h.had;
 }
 
--- the vector that a node may ask for is the one that it has after the turn, but at the end of the exchange
+-- the vector that a node may ask for is the one that it has after the turn, but at the end of the
+-- exchange
 asked_covers : (scenario : ScenarioParts) (i : ℕ) (past : List NoticeKind)
     → ((slot : ℕ) → length past ≡ suc slot → (is_start scenario.params slot ≡ true) ⊎ (is_end scenario.params slot ≡ false))
     → (k : ℕ) (f : FrameParts) → MayAsk scenario i past f → CoversVector scenario k i past f
@@ -154,8 +156,8 @@ asked_covers scenario i past goes k f may rha number =
 
 -- ---- along a run
 
--- While vectors of a cycle are exchanged, each of the cycle that waits at the node or that it has sent has all of the present one; and
--- none is of a cycle that has not started.
+-- While vectors of a cycle are exchanged, each of the cycle that waits at the node or that it has
+-- sent has all of the present one; and none is of a cycle that has not started.
 pub record IsKeptVector (scenario : ScenarioParts) (trace : List SlotNote) (i : ℕ) (node : NodeState) : Type 0 where
   pub late : LateOwn scenario trace i node
   pub covers : (k : ℕ) → IsExchangeOf scenario.params k (length (past_of i trace node))

@@ -1,4 +1,5 @@
--- Every frame of a message's identity that was carried is the message's frame, and its key has no other service.
+-- Every frame of a message's identity that was carried is the message's frame, and its key has no
+-- other service.
 use Rattle.std.proofs.Common.{◌≡◌, true, Some, Contains, refl, ap, sym, ◌∙◌}
 use Rattle.cany_base.specs.declared.message.MsgKey.{MsgKey}
 use Rattle.cany_base.specs.declared.message.Service.{Service}

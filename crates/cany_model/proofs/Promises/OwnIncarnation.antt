@@ -1,4 +1,5 @@
--- Each frame that waits at a running node, and whose class tells an incarnation, tells the number of the node's own.
+-- Each frame that waits at a running node, and whose class tells an incarnation, tells the number
+-- of the node's own.
 use Rattle.std.proofs.Common.{◌≡◌, ℕ, ◌==◌, true, List, refl, ap, sym, ◌∙◌}
 use Rattle.std.specs.List.{AllByRecursion}
 use Rattle.std.proofs.lemmas.Bool.{cond_both, eqb-true}

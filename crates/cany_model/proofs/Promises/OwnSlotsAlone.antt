@@ -1,5 +1,5 @@
--- A restarted node waits with nothing before its first slot, and with no vector of a cycle before its first: so what a running node
--- sends, its incarnation sees.
+-- A restarted node waits with nothing before its first slot, and with no vector of a cycle before
+-- its first: so what a running node sends, its incarnation sees.
 use Rattle.std.proofs.Common.{◌≡◌, ℕ, suc, ◌-◌, ◌<◌, inl, inr, true, false, List, [], ◌∷◌, Some, length, Contains, refl, ap, sym, ◌∙◌, subst, arith}
 use Rattle.std.specs.List.{AllByRecursion}
 use Rattle.std.proofs.lemmas.Bool.{both_ways, false_from_ne_true, ne_eqb}

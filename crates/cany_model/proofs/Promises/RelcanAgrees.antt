@@ -1,5 +1,5 @@
--- Agreement of RELCAN: a node that got the frame of a message read a confirmation of it, so that a slot had carried the frame
--- with success, or fell back to sending it.
+-- Agreement of RELCAN: a node that got the frame of a message read a confirmation of it, so that a
+-- slot had carried the frame with success, or fell back to sending it.
 use Rattle.std.proofs.Common.{◌≡◌, ℕ, ◌<◌, ◌≤◌, ◌==◌, ◌⊎◌, inl, inr, true, false, not, List, ◌∷◌, drop, Contains, ap, sym, ◌∙◌, subst, arith}
 use Rattle.cany_base.specs.Limits.{most_nodes}
 use Rattle.std.proofs.lemmas.Bool.{and_from, both_ways, cases_Bool, ne_eqb, not_from_false, or_cases}
@@ -39,7 +39,8 @@ use Rattle.cany_model.proofs.Rules.ProtocolFacts.{MayStart, is_diffused}
 use Rattle.cany_model.proofs.Rules.Protocols.{relcan_is_one}
 use Rattle.cany_model.proofs.Rules.RelcanFacts.{fell_copies, fell_stays, relcan_delivers}
 
--- a node is to send the frame of a RELCAN message once it fell back, or as origin once it has read its slot
+-- a node is to send the frame of a RELCAN message once it fell back, or as origin once it has read
+-- its slot
 abbrev pub OwesRel : Message → Owes
 OwesRel m scenario i past = (fell_back scenario.params.confirm i (data_id m) past ≡ true) ⊎ MayStart scenario m i past
 

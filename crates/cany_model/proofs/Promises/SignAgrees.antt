@@ -1,4 +1,5 @@
--- Agreement of failure signs: each node that knows a sign, by a copy of its frame or by silence, is to send the frame.
+-- Agreement of failure signs: each node that knows a sign, by a copy of its frame or by silence, is
+-- to send the frame.
 use Rattle.std.proofs.Common.{◌≡◌, ℕ, ◌≤◌, inl, inr, true, false, List, [], ◌∷◌, drop, Option, Some, None, refl, ap, sym, ◌∙◌, subst}
 use Rattle.std.proofs.lemmas.Bool.{and_parts, false≢true, not-true}
 use Rattle.cany_base.specs.Limits.{most_nodes}
@@ -47,7 +48,8 @@ use Rattle.cany_model.proofs.Rules.TurnFacts.{fda_cause, turn_has, turn_withdraw
 
 -- ---- the duty
 
--- a node is to send the frame of a sign that it knows, and may: a sign known by silence starts without a copy
+-- a node is to send the frame of a sign that it knows, and may: a sign known by silence starts
+-- without a copy
 abbrev pub sign_duty : FailureSign → ScenarioParts → Duty
 sign_duty sign scenario = record {
   owes = λ i past. knows sign (knowledge_of scenario i past) ≡ true;
@@ -118,7 +120,8 @@ signed_carried scenario s sign within diffuses quiet i correct signed =
     (diffuses i correct.running) (within_seen scenario.params inc s.trace within) (nobody_waits s sign quiet i correct.running)
     (subst ((sign_duty sign (scenario_for scenario inc)).owes i) (history-is i s) (signed_known scenario s i sign signed)))
 
--- what was carried Clean, each correct node that took part since the first slot that carried it knows
+-- what was carried Clean, each correct node that took part since the first slot that carried it
+-- knows
 carried_known : (scenario : ScenarioParts) (s : RunState) (sign : FailureSign) → IsAtRest scenario (fda_of sign) (sign_duty sign) s → (first : ℕ)
     → first_carried (fda_of sign) s.trace ≡ Some first → (j : ℕ) → IsCorrectFrom scenario s first j → Among (CarriesClean (fda_of sign)) s.trace
     → knows sign (knowledge_of (scenario_at scenario s j) j (history j s)) ≡ true

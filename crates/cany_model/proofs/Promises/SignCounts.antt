@@ -1,4 +1,5 @@
--- The numbers of life signs: a node has sent, and waits with, no more of them than it has asked for.
+-- The numbers of life signs: a node has sent, and waits with, no more of them than it has asked
+-- for.
 use Rattle.std.proofs.Common.{◌≡◌, ℕ, suc, ◌+◌, ◌*◌, ◌≤◌, ◌==◌, inl, inr, Bool, true, false, not, cond, List, [], ◌∷◌, ◌++◌, map, drop, length, count_by, None, refl, ap, sym, ◌∙◌, arith, le_trans, mul-le-mul_right}
 use Rattle.std.specs.List.{AllByRecursion, flat_map}
 use Rattle.std.proofs.lemmas.Bool.{and_parts, both_ways, cases_Bool, cond-false, cond-true, cond_both, false≢true, not-false, not-true, or_cases}
@@ -204,7 +205,8 @@ signs_counted scenario = record {
       );
 }
 
--- so a running node that may take a turn has sent so few, with the notice of that turn, that a life interval passed before each
+-- so a running node that may take a turn has sent so few, with the notice of that turn, that a life
+-- interval passed before each
 pub signs_spaced : (scenario : ScenarioParts) (s : RunState) (i : ℕ) → MayTurn s i → (node_at s.nodes i).unread ≤ length s.trace
     → EachRunning (Counted scenario) s → HasFewSigns (scenario_at scenario s i) i (next_notice s i ∷ history i s) (length (history i s))
 unfolding life_signs_sent

@@ -1,4 +1,5 @@
--- Where data frames come from: each one that waits or was carried is that of a message, and its origin sent it first.
+-- Where data frames come from: each one that waits or was carried is that of a message, and its
+-- origin sent it first.
 use Rattle.std.specs.Prelude.{◌≡◌, ℕ, suc, ◌≤◌, true, false, List, ◌∷◌, Some, length, Contains, ◌⊎◌}
 use Rattle.cany_base.specs.Limits.{most_nodes}
 use Rattle.std.specs.List.{AllByRecursion}

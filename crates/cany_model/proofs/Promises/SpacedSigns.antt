@@ -1,4 +1,5 @@
--- Along every run a running node that may take a turn has sent so few life signs of its own that a life interval passed before each.
+-- Along every run a running node that may take a turn has sent so few life signs of its own that a
+-- life interval passed before each.
 use Rattle.std.specs.Prelude.{ℕ, List, ◌∷◌, length}
 use Rattle.cany_base.specs.declared.step.Step.{Step}
 use Rattle.cany_base.specs.Scenario.{ScenarioParts}

@@ -77,7 +77,8 @@ history_readable scenario journal few i =
 
 -- ---- its own vectors
 
--- a frame that carries a vector that the node had once, and that has all of the present one, is read as such
+-- a frame that carries a vector that the node had once, and that has all of the present one, is
+-- read as such
 carries_more : (scenario : ScenarioParts) (i : ℕ) (past : List NoticeKind) → scenario.params.nodes ≤ (layout scenario.params.format).nodes
     → AllBelow scenario.params.nodes scenario.members → EachRead (IsReadable scenario) past
     → (k : ℕ) (f : FrameParts) (vector : Option Nodes)

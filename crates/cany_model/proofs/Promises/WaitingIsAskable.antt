@@ -1,5 +1,5 @@
--- Each frame that waits at a running node or was carried in a run belongs to the scenario: a node can read it, and one may ask for it
--- where it waits.
+-- Each frame that waits at a running node or was carried in a run belongs to the scenario: a node
+-- can read it, and one may ask for it where it waits.
 use Rattle.std.specs.Prelude.{◌≡◌, ℕ, suc, true, ◌*◌, ◌/◌, ◌<◌, ◌≤◌, List, ◌∷◌, length, Contains, refl}
 use Rattle.cany_base.specs.Limits.{most_nodes}
 use Rattle.std.specs.List.{AllByRecursion}
@@ -144,7 +144,8 @@ data_belongs scenario i slot m stands by service f frame class = record {
     askable Rel e = of Rel e
     askable Tot e = of Tot e
 
--- a frame that answers a data frame that can be read, in a class of frames that are of a message of its service
+-- a frame that answers a data frame that can be read, in a class of frames that are of a message of
+-- its service
 answer_belongs : (scenario : ScenarioParts) (i slot : ℕ) (by : Service) (c : Class)
     → ((f : FrameParts) → IsOfMessage scenario by (identity_of f) → BelongsTo scenario slot c f × IsAskableAs scenario i (identity_of f) c)
     → (g f : FrameParts) → IsDataOf scenario by g → c ≡ f.class → g.number ≡ f.number → g.node ≡ f.node → Belongs scenario i slot f

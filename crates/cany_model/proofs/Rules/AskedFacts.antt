@@ -1,5 +1,5 @@
--- When the origin has asked for a message: an EDCAN or RELCAN message once it has read the scripted slot, a TOTCAN message once it
--- is one of those that were asked for of its backlog.
+-- When the origin has asked for a message: an EDCAN or RELCAN message once it has read the scripted
+-- slot, a TOTCAN message once it is one of those that were asked for of its backlog.
 use Rattle.std.proofs.Common.{◌≡◌, ℕ, suc, ◌==◌, ◌&&◌, ◌||◌, inl, inr, Bool, true, false, not, nat_lt, List, [], ◌∷◌, ◌++◌, filter, length, take, drop, Option, Some, None, refl, ap, sym, ◌∙◌, arith, append-nil}
 use Rattle.std.specs.List.{list_any}
 use Rattle.std.proofs.Math.Bool.{or-false, or_comm}
@@ -126,7 +126,8 @@ both_and true true false = refl
 both_and true false false = refl
 both_and false b c = refl
 
--- the origin has asked for a message that is sent at once exactly where its slot was read, and is one whose scripted asks are made
+-- the origin has asked for a message that is sent at once exactly where its slot was read, and is
+-- one whose scripted asks are made
 pub asked_at_once : (scenario : ScenarioParts) (m : Message) (i : ℕ) (past : List NoticeKind) → IsOneOf (messages_of scenario.sends) m
     → is_sent_at_once m.service ≡ true → m.origin ≡ i
     → has_asked scenario m i past ≡ (is_sent_at_once m.service && nat_lt m.slot (length past) && not (nat_lt m.slot scenario.from))
@@ -181,7 +182,8 @@ with_next p past messages n seq None is = sym (or-false (list_any (is_numbered s
 with_next p past messages n seq (Some k) is =
     let w = next_is p past (take n messages) (drop n messages) k is in any_more (is_numbered seq) n messages k w.0 w.1
 
--- the origin has asked for a TOTCAN message exactly where it is one of those that were asked for of its backlog
+-- the origin has asked for a TOTCAN message exactly where it is one of those that were asked for of
+-- its backlog
 pub asked_of_backlog : (scenario : ScenarioParts) (m : Message) (i : ℕ) (past : List NoticeKind) → m.service ≡ Tot → m.origin ≡ i
     → has_asked scenario m i past ≡ list_any (λ k. k.seq == m.seq) (take (asked scenario i past) (backlog scenario i past))
 unfolding has_asked asked backlog

@@ -1,4 +1,5 @@
--- Delivery at the first notice that brings a data frame: what it enters, and that no key is entered twice.
+-- Delivery at the first notice that brings a data frame: what it enters, and that no key is entered
+-- twice.
 use Rattle.std.specs.Prelude.{◌≡◌, ℕ, ◌+◌, ◌≤◌, ◌==◌, ◌&&◌, ◌||◌, Bool, true, false, not, cond, if◌then◌else◌, List, [], ◌∷◌, ◌++◌, length, count_by, refl}
 use Rattle.std.specs.List.{AllByRecursion, list_any}
 use Rattle.std.proofs.Common.{sym, ap, ◌∙◌, inl, inr, arith, eqb-true}
@@ -70,7 +71,8 @@ entries_at by i (Got f) before = entries_with by i f (Got f) before
 entries_at by i (Sent f) before = entries_with by i f (Sent f) before
 entries_at by i Bad before = []
 
--- its entries are the deliveries of the messages of a service, each at the first notice that brings the frame
+-- its entries are the deliveries of the messages of a service, each at the first notice that brings
+-- the frame
 abbrev pub DeliversAtOnce : Protocol → Service → Type 0
 DeliversAtOnce p by =
     (scenario : ScenarioParts) (i : ℕ) (notice : NoticeKind) (before : List NoticeKind)

@@ -22,12 +22,14 @@ abbrev pub is_through : Parameters → ℕ → List NoticeKind → ℕ → Bool 
 is_through p i past age older_through key =
     is_done p i past older_through key || nat_le p.bound age && not (is_accepted p.bound i key past)
 
--- whether the message of this data frame, which came in a notice of this age, is through if this is its place
+-- whether the message of this data frame, which came in a notice of this age, is through if this is
+-- its place
 abbrev pub is_through_at : Parameters → ℕ → List NoticeKind → ℕ → Bool → Option FrameParts → Bool
 is_through_at p i past age older_through None = true
 is_through_at p i past age older_through (Some f) = not (is_place age past (message_in f)) || is_through p i past age older_through (message_in f)
 
--- whether each message is through whose place is one of these notices, the first of which has this age
+-- whether each message is through whose place is one of these notices, the first of which has this
+-- age
 unfoldable pub are_through : Parameters → ℕ → List NoticeKind → ℕ → List NoticeKind → Bool
 are_through p i past age [] = true
 are_through p i past age (notice ∷ older) =
@@ -172,7 +174,8 @@ same_older : (key : MsgKey) (past : List NoticeKind) (a b : Place key past) → 
 same_older key past a b =
     let both : (a.notice ∷ a.older) ≡ (b.notice ∷ b.older) = sym a.at ∙ ap (λ n. drop n past) (same_age key past a b) ∙ b.at in cc
 
--- a message stands among those that are done exactly where, at its place, it is done by the recursion
+-- a message stands among those that are done exactly where, at its place, it is done by the
+-- recursion
 pub done_exactly : (p : Parameters) (i : ℕ) (key : MsgKey) (past : List NoticeKind) (w : Place key past)
     → Among (IsNamed key) (done p i past) ↔ IsDone p i key past w
 done_exactly p i key past w = (

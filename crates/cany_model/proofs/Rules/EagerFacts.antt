@@ -33,7 +33,8 @@ eager_enters omit f past =
     cond_both (has_enough omit (identity_of f) past) _ _ (AllByRecursion EntersNone) (λ _. (tt, tt))
     (λ _. cond_both (is_first_copy (identity_of f) past) (Ask f ∷ []) [] (AllByRecursion EntersNone) (λ _. (tt, tt)) (λ _. tt))
 
--- at the first copy the frame is asked for, unless the copies are enough already or the node has sent it
+-- at the first copy the frame is asked for, unless the copies are enough already or the node has
+-- sent it
 pub eager_asks : (omit : ℕ) (x : Identity) (f : FrameParts) (past : List NoticeKind) → x ≡ identity_of f → copies x past ≡ 1
     → Among (Asks x) (eager_effects omit f past) ⊎ ((omit < copies x past) ⊎ (has_own x past ≡ true))
 unfolding eager_effects

@@ -70,7 +70,8 @@ edcan_is_lawful = record {
     mute scenario i [] idle = refl
     mute scenario i (e ∷ past) idle = rw idle.0 refl
 
--- a data frame is asked for at the first copy, unless the copies are enough already or the node has sent it
+-- a data frame is asked for at the first copy, unless the copies are enough already or the node has
+-- sent it
 pub edcan_relays : (scenario : ScenarioParts) (i : ℕ) (x : Identity) (e : NoticeKind) (past : List NoticeKind) → x.class ≡ class.Ed → is_got x e ≡ true
     → copies x (e ∷ past) ≡ 1
     → Among (Asks x) (edcan_effects scenario i (e ∷ past)) ⊎ ((scenario.params.omit < copies x (e ∷ past)) ⊎ (has_own x (e ∷ past) ≡ true))

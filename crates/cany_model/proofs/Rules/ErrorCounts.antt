@@ -1,4 +1,5 @@
--- No rule tells an error from an idle slot: what is counted and looked for in what was read is the same where errors count as idle slots.
+-- No rule tells an error from an idle slot: what is counted and looked for in what was read is the
+-- same where errors count as idle slots.
 use Rattle.std.proofs.Common.{◌≡◌, ℕ, zero, suc, Bool, List, [], ◌∷◌, map, length, drop, take, count_by, refl, ap, sym, ◌∙◌}
 use Rattle.std.specs.Prelude.{slice_index_or}
 use Rattle.std.specs.List.{list_any}

@@ -1,4 +1,5 @@
--- No rule tells an error from an idle slot: what a node knows of the site, and what it does by that.
+-- No rule tells an error from an idle slot: what a node knows of the site, and what it does by
+-- that.
 use Rattle.std.proofs.Common.{◌≡◌, ℕ, List, [], ◌∷◌, length, Option, Some, None, refl, ap, ◌∙◌}
 use Rattle.std.specs.List.{flat_map}
 use Rattle.cany_base.specs.declared.notice.NoticeKind.{NoticeKind}

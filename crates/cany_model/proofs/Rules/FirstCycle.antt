@@ -53,7 +53,8 @@ no_brought p cycle slot (Got f) plain early =
         let of = carries_vector p.format (cycle_of p slot) f w is in
         absurd (omega (arith, not_early cycle f of.0 plain, of.1, early))
 
--- Where a node that is at first no member has read slots of earlier cycles alone, it is none, and has no vector.
+-- Where a node that is at first no member has read slots of earlier cycles alone, it is none, and
+-- has no vector.
 record IsOutside (scenario : ScenarioParts) (i : ℕ) (past : List NoticeKind) : Type 0 where
   members : (knowledge_of scenario i past).members ≡ nobody
   vector : (knowledge_of scenario i past).vector ≡ None

@@ -14,7 +14,8 @@ use Rattle.cany_model.proofs.Among.{Each-drop, count-no}
 abbrev pub AreIdle : List NoticeKind → Type 0
 AreIdle past = AllByRecursion (λ e. e ≡ Idle) past
 
--- None of these slots is one whose scripted asks are made. A node that has read some of them has started again, and is no member.
+-- None of these slots is one whose scripted asks are made. A node that has read some of them has
+-- started again, and is no member.
 pub record IsBegun (scenario : ScenarioParts) (past : List NoticeKind) : Type 0 where
   pub idle : AreIdle past
   pub early : length past ≤ scenario.from

@@ -1,4 +1,5 @@
--- What a node knows of the site: nothing while it has only begun, and a sign that becomes known stays known.
+-- What a node knows of the site: nothing while it has only begun, and a sign that becomes known
+-- stays known.
 use Rattle.std.proofs.Common.{◌≡◌, ℕ, zero, suc, ◌==◌, ◌&&◌, ◌||◌, inl, inr, Bool, true, false, not, List, [], ◌∷◌, ◌++◌, map, filter, drop, length, None, refl, ap, sym, ◌∙◌, subst, arith, ◌≢◌, ◌≤◌, ◌-◌, nat_le}
 use Rattle.std.specs.List.{AllByRecursion, list_any, range_with_len}
 use Rattle.std.proofs.lemmas.Bool.{false≢true, and_from, and_parts, cases_Bool, cond_both, eq-eqb, eqb-true, not_from_false, or_cases, or_left, or_right, both_ways, leb-true, not-true}
@@ -31,7 +32,8 @@ none_kept p none (x ∷ xs) = rw (none x) (none_kept p none xs)
 silent_none : (p : Parameters) (i slot : ℕ) (st : Knowledge) → st.members ≡ nobody → (r : ℕ) → has_timed_out p i slot st r ≡ false
 silent_none p i slot st none r = rw (none, has_none r) refl
 
--- one that timed out is another node and a member, and has shown no life for as many slots as the silence has
+-- one that timed out is another node and a member, and has shown no life for as many slots as the
+-- silence has
 pub record HasTimedOut (p : Parameters) (i slot : ℕ) (st : Knowledge) (r : ℕ) : Type 0 where
   pub member : has st.members r ≡ true
   pub other : r ≢ i

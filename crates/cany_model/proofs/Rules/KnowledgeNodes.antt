@@ -1,4 +1,5 @@
--- What a node knows of members, of those that ask to join and of its vector names nodes of the bus alone.
+-- What a node knows of members, of those that ask to join and of its vector names nodes of the bus
+-- alone.
 use Rattle.std.proofs.Common.{◌≡◌, ℕ, ◌==◌, true, nat_lt, if◌then◌else◌, List, [], ◌∷◌, length, Option, Some, None, refl, sym, ◌∙◌, subst}
 use Rattle.std.proofs.lemmas.Bool.{cond_both, ltb-true}
 use Rattle.cany_base.specs.declared.class.Class.TheVariants as class

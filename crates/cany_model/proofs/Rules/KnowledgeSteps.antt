@@ -1,4 +1,5 @@
--- What the steps of a turn make of what a node knows: which fields each step leaves, and what each field is after the turn.
+-- What the steps of a turn make of what a node knows: which fields each step leaves, and what each
+-- field is after the turn.
 use Rattle.std.proofs.Common.{◌≡◌, ℕ, ◌==◌, ◌&&◌, Bool, true, false, not, if◌then◌else◌, List, [], ◌∷◌, Option, Some, None, refl, ap, ◌∙◌}
 use Rattle.std.proofs.lemmas.Bool.{cond_both}
 use Rattle.cany_base.specs.declared.class.Class.TheVariants as class

@@ -21,7 +21,8 @@ last_heard i slot (Got f) st =
 last_heard i slot (Sent f) st =
     cond_both (shows_life f && f.node == i) (record st { last = slot }) st (λ s. (s.last ≡ st.last) ⊎ (s.last ≡ slot)) (λ _. inr refl) (λ _. inl refl)
 
--- A turn leaves it, or it is that of the turn: where the node reads that it was heard, or is newly admitted in it.
+-- A turn leaves it, or it is that of the turn: where the node reads that it was heard, or is newly
+-- admitted in it.
 pub last_cases : (scenario : ScenarioParts) (i : ℕ) (e : NoticeKind) (past : List NoticeKind)
     → ((knowledge_of scenario i (e ∷ past)).last ≡ (knowledge_of scenario i past).last) ⊎ ((knowledge_of scenario i (e ∷ past)).last ≡ length past)
 unfolding knowledge_of
@@ -62,7 +63,8 @@ due_at scenario i e past due =
     let st : Knowledge = knowledge_of scenario i (e ∷ past) in
     eqb-true (length past) (st.last + scenario.params.life) (and_parts (has st.members i) (length past == st.last + scenario.params.life) due).1
 
--- Those that were asked for so far take as many intervals up to the last life, or up to one interval after it, which has passed.
+-- Those that were asked for so far take as many intervals up to the last life, or up to one
+-- interval after it, which has passed.
 abbrev IsSpaced : ScenarioParts → ℕ → List NoticeKind → Type 0
 IsSpaced scenario i past =
     let last = (knowledge_of scenario i past).last in

@@ -1,4 +1,5 @@
--- What stands in a log: the entries of the protocols, each with its reason, and of one key at most one.
+-- What stands in a log: the entries of the protocols, each with its reason, and of one key at most
+-- one.
 use Rattle.std.proofs.Common.{◌≡◌, ℕ, suc, ◌+◌, ◌<◌, ◌≤◌, inl, inr, Bool, true, false, cond, List, [], ◌∷◌, ◌++◌, length, drop, count_by, refl, ap, ◌∙◌, arith, suc-le-suc}
 use Rattle.std.specs.List.{AllByRecursion, flat_map}
 use Rattle.std.proofs.lemmas.Bool.{cases_lt, false≢true}
@@ -47,7 +48,8 @@ entered-to P (Enter entry ∷ effects) (inr h) = inr (entered-to P effects h)
 
 -- ---- from the log to what was read
 
--- an entry that has the property, which the protocol made in the turn of the notice at this place of what was read
+-- an entry that has the property, which the protocol made in the turn of the notice at this place
+-- of what was read
 pub record IsMade (P : LogEntry → Type 0) (scenario : ScenarioParts) (p : Protocol) (i : ℕ) (past : List NoticeKind) : Type 0 where
   pub entry : LogEntry
   pub is : P entry
@@ -181,7 +183,8 @@ one_of : (n : ℕ) (test : Bool) → n ≤ 1 → (0 < n → test ≡ true) → n
 one_of n true few h = few
 one_of n false few h = elim (cases_lt 0 n) [ inl some ↦ absurd (false≢true (h some)) | inr none ↦ none ]
 
--- a log has at most one delivery of a key, where all protocols that made one deliver the messages of one service
+-- a log has at most one delivery of a key, where all protocols that made one deliver the messages
+-- of one service
 pub log_once : (scenario : ScenarioParts) (i : ℕ) (key : MsgKey) (past : List NoticeKind)
     → ((p : Protocol) → IsLawful p → 0 < count_by (delivers_key key) (log_by p scenario i past)
     → (by : Service) × ((q : Protocol) → IsLawful q → 0 < count_by (delivers_key key) (log_by q scenario i past) → q.delivers by ≡ true))

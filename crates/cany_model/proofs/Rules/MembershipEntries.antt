@@ -1,4 +1,5 @@
--- What membership enters in a turn: vectors and scripted asks nothing, and the end of a cycle a view alone.
+-- What membership enters in a turn: vectors and scripted asks nothing, and the end of a cycle a
+-- view alone.
 use Rattle.std.proofs.Common.{◌≡◌, ℕ, ◌==◌, if◌then◌else◌, List, [], ◌∷◌, ◌++◌, filter, length, Option, Some, None, refl}
 use Rattle.std.specs.List.{AllByRecursion, flat_map}
 use Rattle.std.proofs.lemmas.Bool.{cond_both}

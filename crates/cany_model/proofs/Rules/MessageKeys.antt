@@ -1,4 +1,5 @@
--- The messages of a scenario: one of each send, and those that have the same key are the same; and their services.
+-- The messages of a scenario: one of each send, and those that have the same key are the same; and
+-- their services.
 use Rattle.std.specs.Prelude.{slice_get, option_map, Some}
 use Rattle.std.proofs.Common.{◌≡◌, ℕ, zero, suc, ◌<◌, ◌≤◌, inl, inr, true, List, [], ◌∷◌, count_by, length, refl, ap, sym, ◌∙◌, arith}
 use Rattle.std.proofs.lemmas.Bool.{eq-eqb}

@@ -50,7 +50,8 @@ delivers_none p never founded scenario i key (e ∷ past) =
       none_entered scenario p never i (e ∷ past) key (p.effects scenario i (e ∷ past)) (founded scenario i (e ∷ past)),
     )
 
--- So it is lawful if it has nothing ahead, does nothing in a turn of a node that has only begun, and has a reason for each effect.
+-- So it is lawful if it has nothing ahead, does nothing in a turn of a node that has only begun,
+-- and has a reason for each effect.
 pub undelivering_is_lawful : (p : Protocol) → ((by : Service) → p.delivers by ≡ false)
     → ((scenario : ScenarioParts) (m : Message) (i : ℕ) (past : List NoticeKind) → p.ahead scenario m i past ≡ false)
     → ((scenario : ScenarioParts) (i : ℕ) → p.effects scenario i [] ≡ [])

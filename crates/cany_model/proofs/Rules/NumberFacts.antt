@@ -1,4 +1,5 @@
--- The numbers of the frames of a legal scenario: each is below what every format has room for, and each node is one of the bus.
+-- The numbers of the frames of a legal scenario: each is below what every format has room for, and
+-- each node is one of the bus.
 use Rattle.std.proofs.Common.{◌≡◌, ℕ, suc, ◌+◌, ◌*◌, ◌/◌, ◌<◌, ◌≤◌, inl, inr, List, [], ◌∷◌, length, All, Contains, refl, ap, subst, arith}
 use Rattle.std.proofs.Math.Nat.{div-lt_iff_lt-mul, mul-le-mul_left}
 use Rattle.std.proofs.lemmas.Nat.{le-div}
@@ -69,7 +70,8 @@ intervals_few slot slots interval number h few long n =
     let below : slot / interval < most_numbers = (div-lt_iff_lt-mul some).1 (omega (arith, h, few, more)) in
     omega (arith, below, n)
 
--- the bound of a legal scenario has 17 slots at least, and so have its cycle and its interval of life signs
+-- the bound of a legal scenario has 17 slots at least, and so have its cycle and its interval of
+-- life signs
 pub bound_long : (scenario : ScenarioParts) → IsLegalScenario scenario → 17 ≤ scenario.params.bound
 bound_long scenario legal =
     let nodes : 2 ≤ scenario.params.nodes = legal.in_range.nodes.0 in

@@ -1,4 +1,5 @@
--- What is proved of each protocol. Proofs about runs see a turn through these facts and the list of protocols alone.
+-- What is proved of each protocol. Proofs about runs see a turn through these facts and the list of
+-- protocols alone.
 use Rattle.std.proofs.Common.{◌≡◌, ℕ, suc, ◌/◌, ◌<◌, ◌≤◌, ◌⊎◌, inl, inr, Bool, true, false, List, [], ◌∷◌, ◌++◌, length, count_by, Contains, Some, refl, ap, sym, ◌∙◌, arith}
 use Rattle.std.specs.List.{AllByRecursion}
 use Rattle.std.proofs.lemmas.Bool.{false≢true}
@@ -69,15 +70,17 @@ pub record IsTaken (scenario : ScenarioParts) (past : List NoticeKind) (slot : �
   pub number : frame.number ≡ cycle_of scenario.params slot
   pub exchange : is_exchange scenario.params slot ≡ true
 
--- Node i sends the vector in the turn of the newest notice: a cycle starts in its slot, or it has got another one. It has the vector
--- after the turn, but where the cycle ends: there it gives the vector up, and the frame waits no longer.
+-- Node i sends the vector in the turn of the newest notice: a cycle starts in its slot, or it has
+-- got another one. It has the vector after the turn, but where the cycle ends: there it gives the
+-- vector up, and the frame waits no longer.
 pub record IsExchanged (scenario : ScenarioParts) (i : ℕ) (past : List NoticeKind) (slot : ℕ) (v : Nodes) : Type 0 where
   pub now : length past ≡ suc slot
   pub cycle : 0 < cycle_of scenario.params slot
   pub during : (is_start scenario.params slot ≡ true) ⊎ IsTaken scenario past slot
   pub vector : (is_start scenario.params slot ≡ true) ⊎ (is_end scenario.params slot ≡ false) → (knowledge_of scenario i past).vector ≡ Some v
 
--- one of these scripted asks is that of node i in the slot, which is that of the newest notice, and one whose scripted asks are made
+-- one of these scripted asks is that of node i in the slot, which is that of the newest notice, and
+-- one whose scripted asks are made
 pub record IsScripted (scenario : ScenarioParts) (asks : List NodeAsk) (i : ℕ) (past : List NoticeKind) (slot : ℕ) : Type 0 where
   pub ask : NodeAsk
   pub stands : Contains asks ask
@@ -96,7 +99,8 @@ MayRequest scenario i past slot c =
 pub data MayAsk (scenario : ScenarioParts) (i : ℕ) (past : List NoticeKind) (f : FrameParts) : Type 0 where
   -- it has got the frame, which is one that is relayed
   relays : is_relayed f.class ≡ true → Among (λ n. n ≡ Got f) past → MayAsk scenario i past f
-  -- the frame carries a message of its own, whose slot it has read and is one whose scripted asks are made
+  -- the frame carries a message of its own, whose slot it has read and is one whose scripted asks
+  -- are made
   originates : (m : Message) → IsOneOf (messages_of scenario.sends) m → m.origin ≡ i → m.slot < length past → scenario.from ≤ m.slot
       → data_frame m ≡ f → MayAsk scenario i past f
   -- the frame confirms a message of its own that it has sent
@@ -105,7 +109,8 @@ pub data MayAsk (scenario : ScenarioParts) (i : ℕ) (past : List NoticeKind) (f
   -- the frame accepts a message of its own that it has sent
   accepts : (g : FrameParts) → Among (λ n. n ≡ Sent g) past → g.class ≡ class.Tot → g.node ≡ i → accept_frame g ≡ f
       → MayAsk scenario i past f
-  -- the frame is that of a failure sign: a copy told of it, or silence brought it in the slot of the newest notice
+  -- the frame is that of a failure sign: a copy told of it, or silence brought it in the slot of
+  -- the newest notice
   signals : (sign : FailureSign) (slot : ℕ) → length past ≡ suc slot → IsKnownBy scenario slot past sign → fda_frame sign ≡ f → MayAsk scenario i past f
   -- the frame is the node's own life sign, which is due in the slot of the newest notice
   lives : (slot : ℕ) → length past ≡ suc slot → is_due scenario.params.life i slot (knowledge_of scenario i past) ≡ true → els_frame scenario.inc i (life_signs_sent i past) ≡ f
@@ -117,7 +122,8 @@ pub data MayAsk (scenario : ScenarioParts) (i : ℕ) (past : List NoticeKind) (f
   requests : (slot : ℕ) (c : Class) → MayRequest scenario i past slot c → ask_frame c scenario.inc (cycle_of scenario.params slot) i ≡ f
       → MayAsk scenario i past f
 
--- what is delivered in the turn of the newest notice is what a data frame of the service carried, which the node has read by then
+-- what is delivered in the turn of the newest notice is what a data frame of the service carried,
+-- which the node has read by then
 pub record IsRead (p : Protocol) (past : List NoticeKind) (slot : ℕ) (by : Service) (msg : MsgKey) (payload : List ℕ) : Type 0 where
   pub frame : FrameParts
   pub read : Among (Has frame) past
@@ -127,13 +133,15 @@ pub record IsRead (p : Protocol) (past : List NoticeKind) (slot : ℕ) (by : Ser
   pub now : length past ≡ suc slot
   pub serves : p.delivers by ≡ true
 
--- the sign that is entered in the turn of the newest notice was told of, or silence brought it, and is known then
+-- the sign that is entered in the turn of the newest notice was told of, or silence brought it, and
+-- is known then
 pub record IsSignal (scenario : ScenarioParts) (i : ℕ) (past : List NoticeKind) (slot : ℕ) (sign : FailureSign) : Type 0 where
   pub now : length past ≡ suc slot
   pub because : IsKnownBy scenario slot past sign
   pub known : knows sign (knowledge_of scenario i past) ≡ true
 
--- the view is that of a member, which comes to it at the end of a cycle, in the turn of the newest notice
+-- the view is that of a member, which comes to it at the end of a cycle, in the turn of the newest
+-- notice
 pub record IsInstalled (scenario : ScenarioParts) (i : ℕ) (past : List NoticeKind) (slot cycle : ℕ) (view : Nodes) : Type 0 where
   pub now : length past ≡ suc slot
   pub number : cycle ≡ cycle_of scenario.params slot
@@ -147,9 +155,9 @@ IsFoundedEntry scenario p i past (Deliver slot by msg payload) = IsRead p past s
 IsFoundedEntry scenario p i past (Failed slot node cycle) = IsSignal scenario i past slot (record { node = node; cycle = cycle })
 IsFoundedEntry scenario p i past (View slot number members) = IsInstalled scenario i past slot number members
 
--- The frames that are withdrawn only with more than omit copies: those of eager diffusion by all copies, and those of a node that
--- falls back. A frame that accepts a message is not among them: the copies since the place of the message count, and it is
--- withdrawn when the message closes.
+-- The frames that are withdrawn only with more than omit copies: those of eager diffusion by all
+-- copies, and those of a node that falls back. A frame that accepts a message is not among them:
+-- the copies since the place of the message count, and it is withdrawn when the message closes.
 abbrev pub is_diffused : Class → Bool
 is_diffused class.Fda = true
 is_diffused class.Rel = true
@@ -209,7 +217,8 @@ log_by p scenario i [] = []
 log_by p scenario i (notice ∷ before) = log_by p scenario i before ++ entered (p.effects scenario i (notice ∷ before))
 
 pub record IsLawful (p : Protocol) : Type 0 where
-  -- it does nothing without a notice, nor in a turn before the first slot whose scripted asks are made if all that was read is idle
+  -- it does nothing without a notice, nor in a turn before the first slot whose scripted asks are
+  -- made if all that was read is idle
   pub muted : (scenario : ScenarioParts) (i : ℕ) (past : List NoticeKind) → IsBegun scenario past → p.effects scenario i past ≡ []
   -- each effect has its reason
   pub founded : (scenario : ScenarioParts) (i : ℕ) (past : List NoticeKind) → AllByRecursion (IsFounded scenario p i past) (p.effects scenario i past)

@@ -1,4 +1,5 @@
--- How many frames may wait at a node: of each class at most as many as its room, and so of all fewer than the room.
+-- How many frames may wait at a node: of each class at most as many as its room, and so of all
+-- fewer than the room.
 use Rattle.std.proofs.Common.{◌≡◌, ℕ, zero, suc, ◌++◌, ◌*◌, suc-mul, ◌+◌, ◌<◌, ◌≤◌, ◌&&◌, inl, inr, Bool, true, false, cond, List, [], ◌∷◌, length, count_by, sum_by, refl, ap, sym, ◌∙◌, subst, arith}
 use Rattle.std.specs.List.{AllByRecursion}
 use Rattle.std.proofs.Math.Nat.{add-mul, mul-add}
@@ -25,9 +26,9 @@ use Rattle.cany_model.proofs.Rules.MessageKeys.{is_service-from}
 
 -- ---- the rooms of the classes
 
--- How many frames of a class may wait at a node: one of each message of the service; of each cycle from 0 on the node's own
--- vector, and the failure sign of each node; of life signs two before a turn, which may ask for one more; and one of each
--- scripted ask to join and to leave.
+-- How many frames of a class may wait at a node: one of each message of the service; of each cycle
+-- from 0 on the node's own vector, and the failure sign of each node; of life signs two before a
+-- turn, which may ask for one more; and one of each scripted ask to join and to leave.
 abbrev pub class_room : ScenarioParts → Class → ℕ
 class_room scenario Accept = sends_by scenario service.Tot
 class_room scenario Rha = cycles scenario + 1
@@ -42,8 +43,8 @@ class_room scenario Ed = sends_by scenario service.Ed
 
 -- ---- counting
 
--- Where each that is counted is hit by one of the others, and each of the others that counts hits one at most and else none,
--- there are at most as many of them.
+-- Where each that is counted is hit by one of the others, and each of the others that counts hits
+-- one at most and else none, there are at most as many of them.
 module _ {X Y : Type 0} (hits : Y → X → Bool) (p : X → Bool) (q : Y → Bool) where
   hits_more : (x : X) (xs : List X) (ys : List Y)
       → sum_by (λ y. count_by (hits y) (x ∷ xs)) ys ≡ count_by (λ y. hits y x) ys + sum_by (λ y. count_by (hits y) xs) ys
@@ -162,7 +163,8 @@ count_all (x ∷ xs) = omega (arith, count-cons (λ y. true) x xs, count_all xs)
 abbrev pub is_in : Class → FrameParts → Bool
 is_in c f = same_class f.class c
 
--- frames that node i may ask for, no two of one identity: those of each class are at most as many as its room
+-- frames that node i may ask for, no two of one identity: those of each class are at most as many
+-- as its room
 module _ (scenario : ScenarioParts) (i : ℕ) (w : List FrameParts) (distinct : (x : Identity) → count_by (is_of x) w ≤ 1)
     (all : AllByRecursion (λ f. IsAskable scenario i (identity_of f)) w) where
   -- why a frame of the class may be asked for

@@ -37,7 +37,8 @@ sends_named Ed h = refl
 sends_named Rel h = refl
 sends_named Tot h = absurd (false≢true h)
 
--- the messages that may be sent in a slot are those of the scenario, from the first slot on whose scripted asks are made
+-- the messages that may be sent in a slot are those of the scenario, from the first slot on whose
+-- scripted asks are made
 pub sendable_one : (scenario : ScenarioParts) (slot : ℕ) (m : Message) → IsOneOf (sendable scenario slot) m
     → IsOneOf (messages_of scenario.sends) m × (scenario.from ≤ slot)
 sendable_one scenario slot m h =
@@ -95,7 +96,8 @@ sent_asked i slot m (k ∷ messages) (inr h) sent =
     (λ _. inr (sent_asked i slot m messages h sent))
     (λ _. sent_asked i slot m messages h sent)
 
--- the origin of an EDCAN or RELCAN message asks for its frame in the turn of its slot, if this is one whose scripted asks are made
+-- the origin of an EDCAN or RELCAN message asks for its frame in the turn of its slot, if this is
+-- one whose scripted asks are made
 pub sends_ask : (scenario : ScenarioParts) (i : ℕ) (m : Message) (e : NoticeKind) (past : List NoticeKind) → IsOneOf (messages_of scenario.sends) m
     → is_sent_at_once m.service ≡ true → m.origin ≡ i → scenario.from ≤ m.slot → m.slot ≡ length past
     → Among (Asks (identity_of (data_frame m))) (send_effects scenario i (e ∷ past))
@@ -126,7 +128,8 @@ sent_of scenario i slot m is (k ∷ messages) are h =
     (λ _ a. sent_of scenario i slot m is messages (λ n h. are n (inr h)) a)
     h
 
--- the scripted sends ask for the data frame of a message at its origin alone, which has read the slot
+-- the scripted sends ask for the data frame of a message at its origin alone, which has read the
+-- slot
 pub sends_cause : (scenario : ScenarioParts) (i : ℕ) (m : Message) (past : List NoticeKind) → IsOneOf (messages_of scenario.sends) m
     → Among (Asks (data_id m)) (send_effects scenario i past) → MayStart scenario m i past
 unfolding send_effects

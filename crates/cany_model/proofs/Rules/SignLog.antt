@@ -1,4 +1,5 @@
--- Of each failure sign at most one entry stands in the log of a node: it is made in the turn in which the sign becomes known.
+-- Of each failure sign at most one entry stands in the log of a node: it is made in the turn in
+-- which the sign becomes known.
 use Rattle.std.proofs.Common.{◌≡◌, ℕ, zero, suc, ◌+◌, ◌<◌, ◌≤◌, ◌==◌, ◌&&◌, ◌||◌, inl, inr, Bool, true, false, not, cond, List, [], ◌∷◌, ◌++◌, map, filter, length, count_by, refl, ap, sym, ◌∙◌, arith}
 use Rattle.std.specs.List.{AllByRecursion, flat_map, range_with_len}
 use Rattle.std.proofs.lemmas.Bool.{and_parts, both_ways, cases_Bool, cases_lt, cond_both, eqb-true, not-true}

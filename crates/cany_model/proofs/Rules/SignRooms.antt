@@ -1,5 +1,5 @@
--- How many entries the log of a node has: each failure sign names a node and a cycle of the run, and what is neither a sign nor a view is a
--- delivery.
+-- How many entries the log of a node has: each failure sign names a node and a cycle of the run,
+-- and what is neither a sign nor a view is a delivery.
 use Rattle.std.proofs.Common.{◌≡◌, ◌∙◌, ℕ, ◌+◌, ◌-◌, ◌*◌, ◌/◌, ◌<◌, ◌≤◌, ◌==◌, inl, inr, Bool, true, false, List, [], ◌∷◌, length, drop, count_by, refl, ap, subst, arith, div-mul-le_self, eq-eqb, eq-zero-or-pos, le_trans, length-drop}
 use Rattle.std.specs.List.{AllByRecursion}
 use Rattle.std.proofs.Math.Nat.{div-zero}

@@ -1,4 +1,5 @@
--- What the rules of TOTCAN do in a turn: each effect has its reason, and no message is delivered twice.
+-- What the rules of TOTCAN do in a turn: each effect has its reason, and no message is delivered
+-- twice.
 use Rattle.std.specs.Prelude.{slice_index_or}
 use Rattle.std.proofs.Common.{◌≡◌, ℕ, suc, ◌+◌, ◌<◌, ◌≤◌, ◌==◌, ◌&&◌, ◌||◌, inl, inr, Bool, true, false, not, cond, List, [], ◌∷◌, ◌++◌, map, filter, count_by, length, drop, Option, Some, None, refl, ap, sym, ◌∙◌, arith, drop-drop}
 use Rattle.std.specs.List.{AllByRecursion}
@@ -40,7 +41,8 @@ names_accept = refl
 
 -- ---- the notice
 
--- a frame that accepts a message: asked for as one that was got, and withdrawn with enough copies since the place
+-- a frame that accepts a message: asked for as one that was got, and withdrawn with enough copies
+-- since the place
 eager_accept : (scenario : ScenarioParts) (i : ℕ) (f : FrameParts) (past : List NoticeKind) → same_class f.class class.Accept ≡ true
     → AllByRecursion (IsFounded scenario totcan i (Got f ∷ past)) (eager_effects scenario.params.omit f (after_place (message_in f) (Got f ∷ past)))
 unfolding eager_effects
@@ -220,7 +222,8 @@ count-append key first rest = sum_by-append (λ f. cond (is_named key f) 1 0) fi
 pub drop-next : (past : List NoticeKind) (age : ℕ) (e : NoticeKind) (older : List NoticeKind) → drop age past ≡ e ∷ older → drop (age + 1) past ≡ older
 drop-next past age e older at = sym (drop-drop 1 age past) ∙ ap (drop 1) at
 
--- at one place: where the message is done there, none of its notices is newer, and its older ones are no places
+-- at one place: where the message is done there, none of its notices is newer, and its older ones
+-- are no places
 module _ (p : Parameters) (i : ℕ) (key : MsgKey) (past : List NoticeKind) where
   abbrev left : ℕ → ℕ
   left age = cond (is_recent age key past) 0 1

@@ -1,4 +1,5 @@
--- What a turn enters: failure signs by the rules of failure signs, views by those of views, and deliveries by those of messages.
+-- What a turn enters: failure signs by the rules of failure signs, views by those of views, and
+-- deliveries by those of messages.
 use Rattle.std.proofs.Common.{◌≡◌, ℕ, ◌+◌, ◌&&◌, Bool, false, cond, if◌then◌else◌, List, [], ◌∷◌, ◌++◌, map, filter, length, count_by, refl, ap, ◌∙◌, arith}
 use Rattle.std.specs.List.{AllByRecursion, flat_map}
 use Rattle.std.proofs.lemmas.Bool.{cond_both}

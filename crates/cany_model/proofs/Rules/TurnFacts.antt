@@ -1,4 +1,5 @@
--- What a turn does: what one of the protocols does. Proofs about runs see a turn through these facts alone.
+-- What a turn does: what one of the protocols does. Proofs about runs see a turn through these
+-- facts alone.
 use Rattle.std.proofs.Common.{◌≡◌, ℕ, ◌<◌, ◌≤◌, ◌⊎◌, inl, inr, true, false, List, ◌∷◌, length, ap, sym, ◌∙◌, arith}
 use Rattle.std.specs.List.{AllByRecursion}
 use Rattle.std.proofs.lemmas.Bool.{cases_lt, false≢true}
@@ -76,7 +77,8 @@ turn_withdraws scenario i x past diffused h =
     let w = turn_effect (Withdraws x) scenario i past h in
     withdrawal_of scenario w.protocol i past x w.effect w.is w.founded diffused
 
--- the data frame of a message is asked for because a copy was read, or by its origin, which has read the slot
+-- the data frame of a message is asked for because a copy was read, or by its origin, which has
+-- read the slot
 pub turn_cause_data : (scenario : ScenarioParts) (i : ℕ) (m : Message) (past : List NoticeKind) → IsOneOf (messages_of scenario.sends) m
     → Among (Asks (data_id m)) (turn_effects scenario i past) → MayStart scenario m i past ⊎ (0 < copies (data_id m) past)
 turn_cause_data scenario i m past is h =
@@ -89,7 +91,8 @@ pub not_asked : (scenario : ScenarioParts) (p : Protocol) → IsLawful p → (i 
     → Among (Asks x) (p.effects scenario i past) → ⊥
 not_asked scenario p lawful i past x other h = false≢true (sym other ∙ asks_named p lawful scenario i x past h)
 
--- the data frame of a RELCAN message by its origin, which has read the slot, or by a node that falls back
+-- the data frame of a RELCAN message by its origin, which has read the slot, or by a node that
+-- falls back
 pub rel_cause : (scenario : ScenarioParts) (i : ℕ) (m : Message) (past : List NoticeKind) → IsOneOf (messages_of scenario.sends) m → m.service ≡ Rel
     → Among (Asks (data_id m)) (turn_effects scenario i past)
     → MayStart scenario m i past ⊎ (fell_back scenario.params.confirm i (data_id m) past ≡ true)
@@ -145,7 +148,8 @@ turn_only P scenario i past gives =
     (λ p lawful. Each-weaker (IsFounded scenario p i past) (AsksOnly P) (λ e k. asks_only scenario p i past P e gives k) (p.effects scenario i past) (lawful.founded scenario i past))
     protocols are_lawful)
 
--- an EDCAN frame is asked for at the first copy, unless the copies are enough already or the node has sent it
+-- an EDCAN frame is asked for at the first copy, unless the copies are enough already or the node
+-- has sent it
 pub turn_relays : (scenario : ScenarioParts) (i : ℕ) (x : Identity) (e : NoticeKind) (past : List NoticeKind) → x.class ≡ class.Ed → is_got x e ≡ true
     → copies x (e ∷ past) ≡ 1
     → Among (Asks x) (turn_effects scenario i (e ∷ past)) ⊎ ((scenario.params.omit < copies x (e ∷ past)) ⊎ (has_own x (e ∷ past) ≡ true))
@@ -163,14 +167,16 @@ turn_falls_back scenario i x e past falls = elim (relcan_falls_back scenario i x
   | inr many ↦ inr many
 ]
 
--- the origin of an EDCAN or RELCAN message asks for its frame in the turn of its slot, if this is one whose scripted asks are made
+-- the origin of an EDCAN or RELCAN message asks for its frame in the turn of its slot, if this is
+-- one whose scripted asks are made
 pub turn_sends : (scenario : ScenarioParts) (i : ℕ) (m : Message) (e : NoticeKind) (past : List NoticeKind) → IsOneOf (messages_of scenario.sends) m
     → is_sent_at_once m.service ≡ true → m.origin ≡ i → scenario.from ≤ m.slot → m.slot ≡ length past
     → Among (Asks (identity_of (data_frame m))) (turn_effects scenario i (e ∷ past))
 turn_sends scenario i m e past is at_once origin late at =
     turn_has (Asks (identity_of (data_frame m))) scenario i (e ∷ past) scripted_sends sends_are_one (sends_ask scenario i m e past is at_once origin late at)
 
--- so an origin that is to send its message asks for its frame, or the slot of the message is behind it
+-- so an origin that is to send its message asks for its frame, or the slot of the message is behind
+-- it
 pub asks_at_its_slot : (scenario : ScenarioParts) (m : Message) → IsOneOf (messages_of scenario.sends) m → is_sent_at_once m.service ≡ true
     → (i : ℕ) (e : NoticeKind) (past : List NoticeKind) → MayStart scenario m i (e ∷ past)
     → (m.slot < length past) ⊎ Among (Asks (data_id m)) (turn_effects scenario i (e ∷ past))

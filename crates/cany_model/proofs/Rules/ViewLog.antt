@@ -1,4 +1,5 @@
--- How many views the log of a node has: at most one of each membership cycle that ends in what it has read.
+-- How many views the log of a node has: at most one of each membership cycle that ends in what it
+-- has read.
 use Rattle.std.proofs.Common.{◌≡◌, ℕ, ◌+◌, ◌-◌, ◌*◌, ◌%◌, ◌<◌, ◌≤◌, ◌==◌, inl, inr, Bool, true, false, nat_lt, cond, List, [], ◌∷◌, ◌++◌, length, count_by, Option, Some, None, refl, ◌∙◌, arith, mul-le-mul_left}
 use Rattle.std.specs.List.{AllByRecursion}
 use Rattle.std.proofs.Math.Nat.{div-add-mod}

@@ -1,4 +1,5 @@
--- Following a journal step by step: what is left to do after the first steps, and what its end says.
+-- Following a journal step by step: what is left to do after the first steps, and what its end
+-- says.
 use Rattle.std.specs.Prelude.{◌≡◌, ℕ, suc, ◌+◌, ◌<◌, ◌≤◌, true, false, List, [], ◌∷◌, ◌++◌, length, take, drop, Option, Some, None, refl}
 use Rattle.std.proofs.Common.{sym, ap, ◌∙◌, arith, add-one, drop-cons, get_or}
 use Rattle.std.proofs.lemmas.List.{drop_all, take_all}

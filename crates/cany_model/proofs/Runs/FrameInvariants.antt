@@ -1,4 +1,5 @@
--- How a property is proved of the frames of every run: of each that waits at a running node, and of each that was carried.
+-- How a property is proved of the frames of every run: of each that waits at a running node, and of
+-- each that was carried.
 use Rattle.std.specs.Prelude.{◌≡◌, ℕ, ◌<◌, ◌≤◌, true, List, ◌∷◌, Some, None, length, Contains}
 use Rattle.cany_base.specs.Limits.{most_nodes}
 use Rattle.std.specs.List.{AllByRecursion}
@@ -173,7 +174,8 @@ holds_opening W C nodes = record {
   carried = λ note f c. absurd (Contains-none note c);
 }
 
--- a set of nodes has room for the greatest number of nodes, so a sender with a greater number would not be noted
+-- a set of nodes has room for the greatest number of nodes, so a sender with a greater number would
+-- not be noted
 pub holds_of_frames : (scenario : ScenarioParts) (J : RunState → Type 0) → J (opening scenario.params.nodes) → IsKept scenario J → (W : OfWaiting) (C : OfCarried)
     → IsKeptByFrames scenario J W C → (journal : List Step) → scenario.params.nodes ≤ most_nodes → HoldsOfFrames W C (run scenario journal)
 holds_of_frames scenario J first known W C keeps journal few =

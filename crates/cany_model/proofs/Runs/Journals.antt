@@ -122,7 +122,8 @@ below_slot nodes rules s o zero h = refl
 below_slot nodes rules s o (suc n) h =
     omega (arith, reads_slot nodes rules s o n (omega arith), below_slot nodes rules s o n (omega arith))
 
--- a node that starts again has only later slots to read, and every other node has read as many as before
+-- a node that starts again has only later slots to read, and every other node has read as many as
+-- before
 pub reads_restarts : (scenario : ScenarioParts) (s : RunState) (i : ℕ) → reads s i ≤ reads (after_restarts scenario s) i
 reads_restarts scenario s i =
     let same : length (after_restarts scenario s).trace ≡ length s.trace = ap length (after_restarts-trace scenario s) in
@@ -179,8 +180,9 @@ below_turn scenario i s o may (suc n) h = elim (cases_eq n i) [
   | inr other ↦ omega (arith, reads_other scenario i s n other, below_turn scenario i s o may n (omega arith))
 ]
 
--- At most how many steps lead to a state: each step counts for at least one, since a slot makes the trace longer and takes back
--- nothing that was read, and a turn reads one notice. A restart counts what the earlier incarnation left unread as read.
+-- At most how many steps lead to a state: each step counts for at least one, since a slot makes the
+-- trace longer and takes back nothing that was read, and a turn reads one notice. A restart counts
+-- what the earlier incarnation left unread as read.
 abbrev steps_to : ℕ → RunState → ℕ
 steps_to nodes s = length s.trace + reads_below s nodes
 

@@ -1,4 +1,5 @@
--- What holds of the incarnation of the opening, and of each that begins, holds of the present one of each node of every run.
+-- What holds of the incarnation of the opening, and of each that begins, holds of the present one
+-- of each node of every run.
 use Rattle.std.proofs.Common.{ℕ, ◌≤◌, inl, inr, List, length, sym, subst}
 use Rattle.std.proofs.lemmas.Bool.{cases_lt}
 use Rattle.std.proofs.lemmas.List.{length-replicate}

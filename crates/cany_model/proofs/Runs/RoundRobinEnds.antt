@@ -1,5 +1,6 @@
--- The round robin journal of every scenario is legal and whole: before each slot every running node has read every notice,
--- the slot gives each one more, and in its turn the node reads it. A node that starts again at the end of the slot has none.
+-- The round robin journal of every scenario is legal and whole: before each slot every running node
+-- has read every notice, the slot gives each one more, and in its turn the node reads it. A node
+-- that starts again at the end of the slot has none.
 use Rattle.std.specs.Prelude.{◌≡◌, ℕ, zero, suc, ◌+◌, ◌<◌, ◌≤◌, ◌==◌, ◌&&◌, ◌||◌, Bool, true, false, not, nat_le, nat_lt, List, [], ◌∷◌, ◌++◌, length, map, filter, slice_index_or, refl}
 use Rattle.std.specs.List.{range_with_len}
 use Rattle.std.proofs.Common.{sym, ap, ◌∙◌, subst, inl, inr, arith, ltb-false}

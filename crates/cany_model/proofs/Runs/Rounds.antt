@@ -1,4 +1,5 @@
--- The round robin journal, step by step: the steps of one slot as far as they were made, and one round after another.
+-- The round robin journal, step by step: the steps of one slot as far as they were made, and one
+-- round after another.
 use Rattle.std.specs.Prelude.{◌≡◌, ℕ, zero, suc, ◌+◌, ◌≤◌, ◌≢◌, Bool, true, false, cond, nat_lt, List, [], ◌∷◌, ◌++◌, length, map, filter, refl}
 use Rattle.std.specs.Cmp.{both_ways}
 use Rattle.std.specs.List.{range_with_len}
@@ -57,7 +58,8 @@ turns_more test n =
 abbrev pub to_read : ScenarioParts → List Step → ℕ → Bool
 to_read scenario journal k = is_to_read (node_at (run scenario journal).nodes k)
 
--- the slot, and the turns of the nodes below i that have something to read after it; the others are as the slot left them
+-- the slot, and the turns of the nodes below i that have something to read after it; the others are
+-- as the slot left them
 pub record RoundSoFar (scenario : ScenarioParts) (before now : List Step) (i : ℕ) : Type 0 where
   pub steps : now ≡ before ++ Slot ∷ turns (to_read scenario (before ++ Slot ∷ [])) i
   pub same : (k : ℕ) → i ≤ k → node_at (run scenario now).nodes k ≡ node_at (run scenario (before ++ Slot ∷ [])).nodes k

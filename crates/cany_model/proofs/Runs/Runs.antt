@@ -21,7 +21,8 @@ use Rattle.cany_model.proofs.Runs.Steps.{MayTurn, after_slot-length, after_slot-
 
 -- ---- every state of a run
 
--- the nodes are those of the scenario, no node has more unread than there are notes, and a note says which slot it is of
+-- the nodes are those of the scenario, no node has more unread than there are notes, and a note
+-- says which slot it is of
 pub record IsOrderly (nodes : ℕ) (s : RunState) : Type 0 where
   pub count : length s.nodes ≡ nodes
   pub unread : (i : ℕ) → (node_at s.nodes i).unread ≤ length s.trace
@@ -232,7 +233,8 @@ kept_from scenario P keeps s (step ∷ journal) o p =
     let next = kept_any_step scenario P keeps s step o p in
     kept_from scenario P keeps (after_step scenario s step) journal next.0 next.1
 
--- What holds at first, and is kept by each slot and each turn that is done, holds of every run: of any journal, legal or not.
+-- What holds at first, and is kept by each slot and each turn that is done, holds of every run: of
+-- any journal, legal or not.
 pub along_run : (scenario : ScenarioParts) (P : RunState → Type 0) → P (opening scenario.params.nodes) → IsKept scenario P
     → (journal : List Step) → P (run scenario journal)
 along_run scenario P first keeps journal =

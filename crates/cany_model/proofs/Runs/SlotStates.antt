@@ -1,4 +1,5 @@
--- The states in which the slots of a run are run: each is the run of the journal up to there, and each slot that ran has one.
+-- The states in which the slots of a run are run: each is the run of the journal up to there, and
+-- each slot that ran has one.
 use Rattle.std.specs.Prelude.{◌≡◌, ℕ, suc, ◌<◌, ◌≤◌, ◌==◌, true, false, List, [], ◌∷◌, ◌++◌, Some, length, refl}
 use Rattle.std.proofs.Common.{sym, ap, ◌∙◌, subst, inl, inr, arith, append_assoc, eqb-true}
 use Rattle.std.proofs.lemmas.Bool.{and_from, and_parts, cases_Bool, cases_eq, eq-eqb, false≢true}

@@ -189,7 +189,8 @@ pub record MayTurn (s : RunState) (i : ℕ) : Type 0 where
 pub one_less : (s : RunState) (i : ℕ) → MayTurn s i → (node_at s.nodes i).unread ≡ suc ((node_at s.nodes i).unread - 1)
 one_less s i may = let some = may.unread in omega (arith, some)
 
--- the age of the oldest note that node i has not read, and what its slot gave the present incarnation
+-- the age of the oldest note that node i has not read, and what its slot gave the present
+-- incarnation
 abbrev pub next_age : RunState → ℕ → ℕ
 next_age s i = (node_at s.nodes i).unread - 1
 
@@ -281,7 +282,8 @@ after_turn-runs scenario i s j may short =
       | inr other ↦ ap (λ node. runs node) (after_turn-other scenario i s j other)
     ]
 
--- what holds after a turn of the node whose turn it was, and held before it of each that runs, holds of each that runs after it
+-- what holds after a turn of the node whose turn it was, and held before it of each that runs,
+-- holds of each that runs after it
 pub each_turned : (scenario : ScenarioParts) (i : ℕ) (s : RunState) → MayTurn s i → (node_at s.nodes i).unread ≤ length s.trace
     → (P : List SlotNote → ℕ → NodeState → Type 0) → P s.trace i (node_at (after_turn scenario i s).nodes i)
     → ((j : ℕ) → runs (node_at s.nodes j) ≡ true → P s.trace j (node_at s.nodes j))

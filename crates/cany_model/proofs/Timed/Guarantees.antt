@@ -1,4 +1,5 @@
--- The timed guarantees, of every run within the fault hypothesis of a scenario that meets the formulas.
+-- The timed guarantees, of every run within the fault hypothesis of a scenario that meets the
+-- formulas.
 use Rattle.std.specs.Prelude.{◌≡◌, ℕ, ◌≤◌, List, Contains}
 use Rattle.cany_base.specs.Limits.{most_nodes}
 use Rattle.cany_base.specs.declared.message.MsgKey.{MsgKey}

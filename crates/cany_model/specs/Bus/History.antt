@@ -1,5 +1,5 @@
--- What a node has read: for each slot below the next one that it has to read, newest first, what it gave the present
--- incarnation.
+-- What a node has read: for each slot below the next one that it has to read, newest first, what it
+-- gave the present incarnation.
 use Rattle.std.specs.Prelude.{ℕ, zero, suc, ◌-◌, ◌==◌, ◌&&◌, ◌||◌, Bool, false, not, nat_lt, if◌then◌else◌, List, length, map, drop, count_by, None}
 use Rattle.std.specs.List.{list_any}
 use Rattle.cany_base.specs.declared.class.Class.TheVariants as class
@@ -28,8 +28,9 @@ given i note = notice_of (share_of i note)
 abbrev pub carries_early : ℕ → SlotNote → Bool
 carries_early cycle note = carried (λ f. same_class f.class class.Rha && nat_lt f.number cycle) note
 
--- whether a slot comes before the first one in which an incarnation takes part, or carries a vector of a cycle before the first in which
--- it does, so that its notice counts as idle: the incarnation of the opening takes part in all
+-- whether a slot comes before the first one in which an incarnation takes part, or carries a vector
+-- of a cycle before the first in which it does, so that its notice counts as idle: the incarnation
+-- of the opening takes part in all
 unfoldable pub is_hidden : Incarnation → SlotNote → Bool
 is_hidden inc note = not (inc.number == 0) && (nat_lt note.slot inc.from || carries_early inc.cycle note)
 
@@ -41,8 +42,8 @@ as_seen inc note = if is_hidden inc note then record note { frame = None } else 
 abbrev pub seen : Incarnation → List SlotNote → List SlotNote
 seen inc trace = map (as_seen inc) trace
 
--- the same, where the number of the incarnation is given apart, so that a node that never restarted gets the very trace, and rows
--- compute
+-- the same, where the number of the incarnation is given apart, so that a node that never restarted
+-- gets the very trace, and rows compute
 abbrev pub trace_for : ℕ → Incarnation → List SlotNote → List SlotNote
 trace_for zero inc trace = trace
 trace_for (suc number) inc trace = seen inc trace

@@ -1,4 +1,5 @@
--- Restarts: at the end of a slot, after the stops, each stopped node of a restart entry of the slot starts again.
+-- Restarts: at the end of a slot, after the stops, each stopped node of a restart entry of the slot
+-- starts again.
 use Rattle.std.specs.Prelude.{ℕ, ◌+◌, ◌-◌, ◌/◌, ◌==◌, ◌&&◌, ◌||◌, Bool, not, if◌then◌else◌, List, [], ◌∷◌}
 use Rattle.std.specs.List.{list_any}
 use Rattle.cany_base.specs.declared.message.NodeAsk.{NodeAsk}
@@ -18,8 +19,8 @@ names_restart restarts slot i = list_any (is_restart slot i) restarts
 abbrev pub first_cycle : Parameters → ℕ → ℕ
 first_cycle p slot = (slot + (p.cycle - 1)) / p.cycle
 
--- The incarnation that begins at the end of a slot. It takes part only so much later that no window of bound + lag slots has
--- frames sent by two incarnations of a node.
+-- The incarnation that begins at the end of a slot. It takes part only so much later that no window
+-- of bound + lag slots has frames sent by two incarnations of a node.
 abbrev pub next_incarnation : Parameters → ℕ → Incarnation → Incarnation
 next_incarnation p slot inc = record {
   number = inc.number + 1;
@@ -32,7 +33,8 @@ next_incarnation p slot inc = record {
 abbrev pub ended_at : ℕ → NodeState → EndedIncarnation
 ended_at slot node = record { incarnation = node.present; next = slot + 1 - node.unread; stopped = node.stopped }
 
--- the node after its restart at the end of a slot: nothing waits, nothing is unread, its counters are zero, and it runs
+-- the node after its restart at the end of a slot: nothing waits, nothing is unread, its counters
+-- are zero, and it runs
 abbrev pub restarted : Parameters → ℕ → NodeState → NodeState
 restarted p slot node =
     record fresh { present = next_incarnation p slot node.present; ended = ended_at slot node ∷ node.ended }

@@ -69,7 +69,8 @@ abbrev pub ruling_of : Option Rule → Ruling
 ruling_of None = record { verdict = Clean; stop = nobody }
 ruling_of (Some rule) = record { verdict = rule.verdict; stop = rule.stop }
 
--- a rule for the slot is used alone; without one, that for the attempt; without either, the slot is Clean and nobody stops
+-- a rule for the slot is used alone; without one, that for the attempt; without either, the slot is
+-- Clean and nobody stops
 unfoldable pub script : List Rule → FaultScript
 script rules trace None = ruling_of (slot_rule rules (length trace))
 script rules trace (Some f) =
@@ -151,8 +152,8 @@ note_by slot nodes frame ruling = with_stops ruling.stop nodes (transmission slo
 unfoldable pub slot_note_of : FaultScript → RunState → SlotNote
 slot_note_of rules s = note_by (length s.trace) s.nodes (winner s.nodes) (rules s.trace (winner s.nodes))
 
--- A node after the slot: one more notice is unread. Of a node that had stopped before only this count rises, so that what it
--- has read stays; it gets no notice.
+-- A node after the slot: one more notice is unread. Of a node that had stopped before only this
+-- count rises, so that what it has read stays; it gets no notice.
 unfoldable pub node_after : ℕ → SlotNote → NodeState → NodeState
 node_after i note node =
     if runs node

@@ -3,23 +3,26 @@ use Rattle.std.specs.Prelude.{ℕ, ◌-◌, Bool, List, [], Option, Some, None, 
 use Rattle.cany_base.specs.declared.slot_note.SlotNote.{SlotNote}
 use Rattle.cany_base.specs.Frame.{FrameParts}
 
--- An incarnation of a node: its number, counted from 0 at the opening; the first slot that gives it a notice; the first in which
--- it takes part; and the first membership cycle in which it does. The notice of an earlier slot counts as idle, and no scripted ask of
--- one is made. So does the notice of a slot that carries a vector of an earlier cycle.
+-- An incarnation of a node: its number, counted from 0 at the opening; the first slot that gives it
+-- a notice; the first in which it takes part; and the first membership cycle in which it does. The
+-- notice of an earlier slot counts as idle, and no scripted ask of one is made. So does the notice
+-- of a slot that carries a vector of an earlier cycle.
 pub record Incarnation : Type 0 where
   pub number : ℕ
   pub since : ℕ
   pub from : ℕ
   pub cycle : ℕ
 
--- an incarnation as it is when it ends: the next slot that it would have read, and the slot of its stop
+-- an incarnation as it is when it ends: the next slot that it would have read, and the slot of its
+-- stop
 pub record EndedIncarnation : Type 0 where
   pub incarnation : Incarnation
   pub next : ℕ
   pub stopped : Option ℕ
 
--- one node: its present incarnation and those that have ended, the newest first; how many of the slots that ran it has not read, the
--- frames that its controller waits with, in the order in which they win, its error counters, and the slot of its stop
+-- one node: its present incarnation and those that have ended, the newest first; how many of the
+-- slots that ran it has not read, the frames that its controller waits with, in the order in which
+-- they win, its error counters, and the slot of its stop
 pub record NodeState : Type 0 where
   pub present : Incarnation
   pub ended : List EndedIncarnation

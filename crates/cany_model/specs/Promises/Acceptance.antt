@@ -21,7 +21,8 @@ pub record WasCarriedClean (trace : List SlotNote) (key : MsgKey) (slot : ℕ) :
   pub frame : carried (is_of (tot_of_key key)) note ≡ true
   pub clean : note.verdict ≡ Clean
 
--- a correct node that takes part since slot c and has read slot c + bound, in which the message closes
+-- a correct node that takes part since slot c and has read slot c + bound, in which the message
+-- closes
 pub record HasReadClosing (scenario : ScenarioParts) (s : RunState) (c i : ℕ) : Type 0 where
   pub correct : IsCorrectFrom scenario s c i
   pub read : c + scenario.params.bound < reads s i
@@ -34,8 +35,9 @@ history_to slot i s = drop (reads s i - (slot + 1)) (history i s)
 abbrev pub accepted_in_time : ScenarioParts → RunState → MsgKey → (c i : ℕ) → Bool
 accepted_in_time scenario s key c i = is_accepted scenario.params.bound i key (history_to (c + scenario.params.bound) i s)
 
--- Of a message whose data frame was carried Clean in slot c: the correct nodes that take part since slot c and have read slot c + bound had
--- accepted it by then, all or none; and all of them had, if any running node has accepted it by now.
+-- Of a message whose data frame was carried Clean in slot c: the correct nodes that take part since
+-- slot c and have read slot c + bound had accepted it by then, all or none; and all of them had, if
+-- any running node has accepted it by now.
 pub record IsAcceptedByAllOrNone (scenario : ScenarioParts) (s : RunState) (key : MsgKey) (c : ℕ) : Type 0 where
   pub alike : (i j : ℕ) → HasReadClosing scenario s c i → HasReadClosing scenario s c j
       → accepted_in_time scenario s key c i ≡ accepted_in_time scenario s key c j

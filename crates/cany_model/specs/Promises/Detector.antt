@@ -1,5 +1,5 @@
--- What users of the failure detector and of the membership are promised: is a running node ever thrown out, is a stopped one removed, is
--- one that asks to join admitted.
+-- What users of the failure detector and of the membership are promised: is a running node ever
+-- thrown out, is a stopped one removed, is one that asks to join admitted.
 use Rattle.std.specs.Prelude.{◌≡◌, ℕ, ◌+◌, ◌-◌, ◌*◌, ◌<◌, ◌≤◌, ◌⊎◌, ◌||◌, Bool, true, false, List, [], ◌∷◌, Some, Contains}
 use Rattle.std.specs.List.{list_any}
 use Rattle.cany_base.specs.declared.class.Class.TheVariants as class
@@ -42,7 +42,8 @@ asks_leave (Ask f) = same_class f.class class.Leave
 asks_leave (Withdraw x) = false
 asks_leave (Enter entry) = false
 
--- whether node i asked to leave in one of its turns so far, as a member does by a scripted leave of the slot
+-- whether node i asked to leave in one of its turns so far, as a member does by a scripted leave of
+-- the slot
 unfoldable pub has_asked_leave : ScenarioParts → ℕ → List NoticeKind → Bool
 has_asked_leave scenario i [] = false
 has_asked_leave scenario i (notice ∷ before) =
@@ -60,7 +61,8 @@ StaysInViews scenario s r t =
 
 -- ---- removal
 
--- node r stands in no view that a correct node holds of a cycle that starts more than `silence` slots after slot t
+-- node r stands in no view that a correct node holds of a cycle that starts more than `silence`
+-- slots after slot t
 abbrev pub IsRemoved : ScenarioParts → RunState → (r t : ℕ) → Type 0
 IsRemoved scenario s r t =
     (i : ℕ) → IsCorrect scenario s i → (slot number : ℕ) (members : Nodes) → Contains (log scenario s i) (View slot number members)
@@ -68,8 +70,8 @@ IsRemoved scenario s r t =
 
 -- ---- admission
 
--- A JOIN of node r was carried Clean in a slot after the start of the cycle before cycle k, and not after that of cycle k. Before its turn
--- of that slot no correct node had r in its view.
+-- A JOIN of node r was carried Clean in a slot after the start of the cycle before cycle k, and not
+-- after that of cycle k. Before its turn of that slot no correct node had r in its view.
 pub record JoinWasCarried (scenario : ScenarioParts) (s : RunState) (r k : ℕ) : Type 0 where
   pub note : SlotNote
   pub stands : Contains s.trace note
@@ -82,7 +84,8 @@ pub record JoinWasCarried (scenario : ScenarioParts) (s : RunState) (r k : ℕ) 
   pub by_start : note.slot ≤ k * scenario.params.cycle
   pub outside : (i : ℕ) → IsCorrect scenario s i → has (members_before scenario s note.slot i) r ≡ false
 
--- each correct node that installs a vector at the end of cycle k has r in it, or, for k > 1, in the one that it installed in the cycle before
+-- each correct node that installs a vector at the end of cycle k has r in it, or, for k > 1, in the
+-- one that it installed in the cycle before
 abbrev pub IsAdmitted : ScenarioParts → RunState → (r k : ℕ) → Type 0
 IsAdmitted scenario s r k =
     (i : ℕ) → IsCorrect scenario s i → (v : Nodes) → installed scenario s i k ≡ Some v

@@ -41,7 +41,8 @@ is_silent_slot note = carried any_frame note && is_silent note.verdict
 abbrev pub is_error_slot : SlotNote → Bool
 is_error_slot note = carried any_frame note && is_error note.verdict
 
--- whether the Partial slots of the two count together: those of one identity, and those of the vectors of one cycle
+-- whether the Partial slots of the two count together: those of one identity, and those of the
+-- vectors of one cycle
 unfoldable pub count_together : Identity → Identity → Bool
 count_together x y =
     if same_class x.class class.Rha then same_class y.class class.Rha && x.number == y.number else same_identity x y
@@ -63,7 +64,8 @@ pub record IsWithin (p : Parameters) (trace : List SlotNote) : Type 0 where
   pub silent : All (λ note. is_silent_slot note ≡ false) trace
   -- no identity, and no cycle's vectors together, met more than omit Partial slots
   pub omit : (x : Identity) → partial_slots x trace ≤ p.omit
-  -- no window of bound + lag consecutive slots, or fewer, has more than errors Lost or Partial slots
+  -- no window of bound + lag consecutive slots, or fewer, has more than errors Lost or Partial
+  -- slots
   pub errors : (age : ℕ) → error_slots (take (p.bound + p.lag) (drop age trace)) ≤ p.errors
 
 -- whether the newest slot carried a frame that met too many Partial slots by then

@@ -27,7 +27,8 @@ pub record HasReadEnd (scenario : ScenarioParts) (s : RunState) (k i : ℕ) : Ty
   pub correct : IsCorrectFrom scenario s (k * scenario.params.cycle) i
   pub read : k * scenario.params.cycle + scenario.params.bound < reads s i
 
--- such nodes install one vector, or none of them has one; and a correct node that takes part only since later has none
+-- such nodes install one vector, or none of them has one; and a correct node that takes part only
+-- since later has none
 pub record InstallsOneVector (scenario : ScenarioParts) (s : RunState) (k : ℕ) : Type 0 where
   pub alike : (i j : ℕ) → HasReadEnd scenario s k i → HasReadEnd scenario s k j → installed scenario s i k ≡ installed scenario s j k
   pub late : (i : ℕ) → IsCorrect scenario s i → k * scenario.params.cycle < (node_at s.nodes i).present.from → installed scenario s i k ≡ None

@@ -45,8 +45,9 @@ order_by test from [] = []
 order_by test from (note ∷ before) =
     order_by test from before ++ (if nat_le from note.slot then ordered_in test note note.frame else [])
 
--- The messages that a running node has accepted, in the order of the slots in which their data frames were carried Clean: of the slots
--- from this one on. The order of the run is that from slot 0 on.
+-- The messages that a running node has accepted, in the order of the slots in which their data
+-- frames were carried Clean: of the slots from this one on. The order of the run is that from slot
+-- 0 on.
 abbrev pub order : ScenarioParts → RunState → ℕ → List Content
 order scenario s from = order_by (is_accepted_by_some scenario s) from s.trace
 
@@ -63,7 +64,8 @@ tot_deliveries entries = flat_map tot_content entries
 abbrev pub content_of : Message → Content
 content_of m = record { msg = message_key m; payload = m.payload }
 
--- What node i has delivered by TOTCAN is a prefix of the order of the slots in which it takes part, and has each settled message of it.
+-- What node i has delivered by TOTCAN is a prefix of the order of the slots in which it takes part,
+-- and has each settled message of it.
 pub record FollowsOrder (scenario : ScenarioParts) (s : RunState) (i : ℕ) : Type 0 where
   pub rest : List Content
   pub prefix : order scenario s (node_at s.nodes i).present.from ≡ tot_deliveries (log scenario s i) ++ rest

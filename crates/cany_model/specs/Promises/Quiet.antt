@@ -1,5 +1,6 @@
--- A quiet slot: no frame that accepts a message, no vector and no life sign is to be sent, nor will an unread notice make a node ask for
--- one of the first two. So whatever was to be agreed on by such frames was sent before it.
+-- A quiet slot: no frame that accepts a message, no vector and no life sign is to be sent, nor will
+-- an unread notice make a node ask for one of the first two. So whatever was to be agreed on by
+-- such frames was sent before it.
 use Rattle.std.specs.Prelude.{◌≡◌, ℕ, ◌+◌, ◌<◌, ◌≤◌, ◌||◌, Bool, true, false, List, Some, count_by, drop, map}
 use Rattle.std.specs.List.{list_any, range_with_len}
 use Rattle.cany_base.specs.declared.class.Class.{Class}
@@ -25,8 +26,9 @@ asks_for_first_class (Ask f) = same_class f.class class.Accept || same_class f.c
 asks_for_first_class (Withdraw x) = false
 asks_for_first_class (Enter entry) = false
 
--- Whether an incarnation of node i asks for such a frame in its turn of the slot that so many newer ones follow: also where the same turn
--- withdraws it, and also where this incarnation has not read that slot.
+-- Whether an incarnation of node i asks for such a frame in its turn of the slot that so many newer
+-- ones follow: also where the same turn withdraws it, and also where this incarnation has not read
+-- that slot.
 unfoldable pub asks_as : ScenarioParts → RunState → ℕ → Incarnation → ℕ → Bool
 asks_as scenario s i inc age =
     list_any asks_for_first_class (effects_for inc.number scenario inc i (map (given i) (drop age (trace_for inc.number inc s.trace))))
@@ -35,7 +37,8 @@ asks_as scenario s i inc age =
 abbrev pub asks_at : ScenarioParts → RunState → ℕ → ℕ → Bool
 asks_at scenario s i age = asks_as scenario s i (node_at s.nodes i).present age
 
--- no running node waits with a frame of those classes, and none will ask for one but a life sign at a notice that it has not read
+-- no running node waits with a frame of those classes, and none will ask for one but a life sign at
+-- a notice that it has not read
 pub record IsQuiet (scenario : ScenarioParts) (s : RunState) : Type 0 where
   pub waits : (i : ℕ) → runs (node_at s.nodes i) ≡ true → list_any (λ f. is_top f.class) (node_at s.nodes i).waiting ≡ false
   pub asks : (i : ℕ) → runs (node_at s.nodes i) ≡ true → (age : ℕ) → age < (node_at s.nodes i).unread → asks_at scenario s i age ≡ false
@@ -54,7 +57,8 @@ HasQuietSlots scenario journal =
 
 -- ---- the slots that make a node ask
 
--- whether the notice of this age makes a node ask: each node counts, also one that has stopped, with each of its incarnations
+-- whether the notice of this age makes a node ask: each node counts, also one that has stopped,
+-- with each of its incarnations
 abbrev pub makes_ask : ScenarioParts → RunState → ℕ → Bool
 makes_ask scenario s age =
     list_any (λ i. list_any (λ e. asks_as scenario s i e.incarnation age) (incarnations s i)) (range_with_len 0 scenario.params.nodes)

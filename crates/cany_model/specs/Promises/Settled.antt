@@ -29,18 +29,19 @@ is_awaited frames s = list_any (λ node. runs node && list_any (λ x. waits x no
 abbrev pub origin_has_asked : ScenarioParts → RunState → Message → Bool
 origin_has_asked scenario s m = has_asked (scenario_at scenario s m.origin) m m.origin (history m.origin s)
 
--- Whether the origin's present incarnation takes part only since a slot after the scripted one, and so never asks. This is so
--- wherever an earlier incarnation asked.
+-- Whether the origin's present incarnation takes part only since a slot after the scripted one, and
+-- so never asks. This is so wherever an earlier incarnation asked.
 abbrev pub came_too_late : RunState → Message → Bool
 came_too_late s m = nat_lt m.slot (node_at s.nodes m.origin).present.from
 
--- whether a running node has something of the message ahead: a timer or a closing whose slot it has not read yet
+-- whether a running node has something of the message ahead: a timer or a closing whose slot it has
+-- not read yet
 abbrev pub is_ahead : ScenarioParts → RunState → Message → Bool
 is_ahead scenario s m =
     list_any (λ i. runs (node_at s.nodes i) && is_ahead_at (scenario_at scenario s i) m i (history i s)) (range_with_len 0 scenario.params.nodes)
 
--- The origin has asked for the message, is stopped or came too late for it; no running node waits with a frame of it, every
--- running node has read every notice, and none has anything of it ahead.
+-- The origin has asked for the message, is stopped or came too late for it; no running node waits
+-- with a frame of it, every running node has read every notice, and none has anything of it ahead.
 unfoldable pub is_settled : ScenarioParts → RunState → Message → Bool
 is_settled scenario s m =
     (origin_has_asked scenario s m || not (runs (node_at s.nodes m.origin)) || came_too_late s m)

@@ -1,4 +1,5 @@
--- The backlog of a node: its scripted TOTCAN messages join it one after another, and in that order it asks for their data frames.
+-- The backlog of a node: its scripted TOTCAN messages join it one after another, and in that order
+-- it asks for their data frames.
 use Rattle.std.specs.Prelude.{ℕ, ◌+◌, ◌==◌, ◌&&◌, ◌++◌, Bool, true, false, not, if◌then◌else◌, List, [], ◌∷◌, Option, Some, None, length, take, drop, filter}
 use Rattle.std.specs.List.{last_or, list_all}
 use Rattle.std.specs.Option.{option_map_or}
@@ -19,18 +20,19 @@ use Rattle.cany_model.specs.Rules.Totcan.{is_recent}
 abbrev pub joins_in : ℕ → ℕ → Message → Bool
 joins_in i slot m = is_service m.service service.Tot && m.origin == i && m.slot == slot
 
--- the messages that have joined it so far, in that order, with those that were asked for: those of one slot in file order
+-- the messages that have joined it so far, in that order, with those that were asked for: those of
+-- one slot in file order
 unfoldable pub backlog : ScenarioParts → ℕ → List NoticeKind → List Message
 backlog scenario i [] = []
 backlog scenario i (notice ∷ before) = backlog scenario i before ++ filter (joins_in i (length before)) (sendable scenario (length before))
 
--- Whether so many slots have passed since the place of the last of these messages. A message without a place counts as long past:
--- that it was sent is asked beside this.
+-- Whether so many slots have passed since the place of the last of these messages. A message
+-- without a place counts as long past: that it was sent is asked beside this.
 abbrev pub is_past_last : ℕ → List Message → List NoticeKind → Bool
 is_past_last slots messages past = option_map_or (λ m. not (is_recent slots (message_key m) past)) (last_or None messages) true
 
--- Whether the next message may be asked for after these: the node has read its own transmission of each, and the place of the last lies
--- bound + lag slots back.
+-- Whether the next message may be asked for after these: the node has read its own transmission of
+-- each, and the place of the last lies bound + lag slots back.
 abbrev pub is_free : Parameters → List Message → List NoticeKind → Bool
 is_free p earlier past = list_all (λ m. has_own (data_id m) past) earlier && is_past_last (p.bound + p.lag) earlier past
 

@@ -1,4 +1,5 @@
--- The entry of a delivery, and when EDCAN and RELCAN deliver: at the first copy, or at the origin's own transmission.
+-- The entry of a delivery, and when EDCAN and RELCAN deliver: at the first copy, or at the origin's
+-- own transmission.
 use Rattle.std.specs.Prelude.{ℕ, ◌==◌, ◌&&◌, ◌||◌, Bool, not, if◌then◌else◌, List, [], ◌∷◌, length}
 use Rattle.std.specs.List.{list_any}
 use Rattle.cany_base.specs.declared.log_entry.LogEntry.{LogEntry}
@@ -14,7 +15,8 @@ use Rattle.cany_model.specs.Bus.History.{is_got, is_sent}
 abbrev pub brings : ℕ → Identity → NoticeKind → Bool
 brings i x notice = is_got x notice || (x.node == i && is_sent x notice)
 
--- whether the notice is the first to bring the message of this data frame: what was read before it is given
+-- whether the notice is the first to bring the message of this data frame: what was read before it
+-- is given
 abbrev pub is_delivery : ℕ → FrameParts → NoticeKind → List NoticeKind → Bool
 is_delivery i f notice before = brings i (identity_of f) notice && not (list_any (brings i (identity_of f)) before)
 

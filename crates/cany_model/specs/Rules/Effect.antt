@@ -15,8 +15,8 @@ pub data Effect : Type 0 where
   -- the entry is appended to the log
   Enter : LogEntry → Effect
 
--- What a node does in a turn, from the scenario, its number and what it has read, newest first: the first is the notice of
--- this turn, and its slot is the number of those before it.
+-- What a node does in a turn, from the scenario, its number and what it has read, newest first: the
+-- first is the notice of this turn, and its slot is the number of those before it.
 abbrev pub TurnRule : Type 0
 TurnRule = ScenarioParts → ℕ → List NoticeKind → List Effect
 

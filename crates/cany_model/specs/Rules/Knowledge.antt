@@ -1,4 +1,5 @@
--- What a node knows of the site from what it has read: who the members are, which nodes have failed, and when each last showed life.
+-- What a node knows of the site from what it has read: who the members are, which nodes have
+-- failed, and when each last showed life.
 use Rattle.std.specs.Prelude.{ℕ, ◌-◌, ◌==◌, ◌&&◌, ◌||◌, Bool, false, not, nat_le, if◌then◌else◌, List, [], ◌∷◌, filter, map, Option, None}
 use Rattle.std.specs.List.{list_any, range_with_len}
 use Rattle.cany_base.specs.declared.class.Class.TheVariants as class
@@ -39,7 +40,8 @@ pub record Knowledge : Type 0 where
   -- the nodes that have failed here, and the signs that are known, the newest first
   pub failed : Nodes
   pub signs : List FailureSign
-  -- the slot in which each other node last showed life, and the one of the node's own last life: 0 where there was none
+  -- the slot in which each other node last showed life, and the one of the node's own last life: 0
+  -- where there was none
   pub shown : ℕ → ℕ
   pub last : ℕ
   -- the nodes that have asked to join the view, and the members that have asked to leave it
@@ -91,7 +93,8 @@ after_life i slot (Got f) knowledge = if shows_life f then with_shown f.node slo
 after_life i slot (Sent f) knowledge = if shows_life f && f.node == i then record knowledge { last = slot } else knowledge
 after_life i slot Bad knowledge = knowledge
 
--- Those newly admitted have not failed, and show life from this slot on: so does node i itself, if it is one of them.
+-- Those newly admitted have not failed, and show life from this slot on: so does node i itself, if
+-- it is one of them.
 abbrev pub after_admitting : ℕ → ℕ → Nodes → Knowledge → Knowledge
 after_admitting i slot newly knowledge = record knowledge {
   failed = those_where (λ r. has knowledge.failed r && not (has newly r));
@@ -101,7 +104,8 @@ after_admitting i slot newly knowledge = record knowledge {
 
 -- ---- a sign becomes known
 
--- It counts in its cycle alone: one that is known already has no effect again, also where the node no longer counts as failed.
+-- It counts in its cycle alone: one that is known already has no effect again, also where the node
+-- no longer counts as failed.
 abbrev pub with_sign : FailureSign → Knowledge → Knowledge
 with_sign sign knowledge =
     record knowledge { failed = those_where (λ r. has knowledge.failed r || r == sign.node); signs = sign ∷ knowledge.signs }
@@ -111,14 +115,16 @@ unfoldable pub with_signs : List FailureSign → Knowledge → Knowledge
 with_signs [] knowledge = knowledge
 with_signs (sign ∷ signs) knowledge = with_signs signs (with_sign sign knowledge)
 
--- the sign that a notice tells of, where it is not known: it may name the node itself, or one that is no member
+-- the sign that a notice tells of, where it is not known: it may name the node itself, or one that
+-- is no member
 unfoldable pub told : NoticeKind → Knowledge → List FailureSign
 told Idle knowledge = []
 told (Got f) knowledge = if same_class f.class class.Fda && not (knows (sign_of f) knowledge) then sign_of f ∷ [] else []
 told (Sent f) knowledge = []
 told Bad knowledge = []
 
--- whether node r is another member that has not failed here, and has shown no life for as many slots as the silence has
+-- whether node r is another member that has not failed here, and has shown no life for as many
+-- slots as the silence has
 abbrev pub has_timed_out : Parameters → ℕ → ℕ → Knowledge → ℕ → Bool
 has_timed_out p i slot knowledge r =
     has knowledge.members r && not (r == i) && not (has knowledge.failed r) && nat_le p.silence (slot - knowledge.shown r)

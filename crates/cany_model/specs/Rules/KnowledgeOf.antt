@@ -1,4 +1,5 @@
--- What a node knows of the site after all that it has read: one step after another in each turn, each from what it knew before the turn.
+-- What a node knows of the site after all that it has read: one step after another in each turn,
+-- each from what it knew before the turn.
 use Rattle.std.specs.Prelude.{ℕ, if◌then◌else◌, List, [], ◌∷◌, length, Option, None}
 use Rattle.cany_base.specs.declared.notice.NoticeKind.{NoticeKind}
 use Rattle.cany_base.specs.Nodes.{Nodes}

@@ -1,4 +1,5 @@
--- Life and failure: a member shows life at intervals, and a node that learns that another one failed tells of it.
+-- Life and failure: a member shows life at intervals, and a node that learns that another one
+-- failed tells of it.
 use Rattle.std.specs.Prelude.{ℕ, ◌+◌, ◌==◌, ◌&&◌, ◌++◌, Bool, false, if◌then◌else◌, List, [], ◌∷◌, length, count_by}
 use Rattle.std.specs.List.{flat_map}
 use Rattle.cany_base.specs.declared.class.Class.TheVariants as class
@@ -17,8 +18,8 @@ use Rattle.cany_model.specs.Rules.Knowledge.{FailureSign, Knowledge, fda_frame, 
 
 -- ---- failure signs
 
--- A sign that becomes known is entered, and its frame is asked for, unless more than omit copies of it were read. So one that silence
--- brought is asked for once, and not again at a copy.
+-- A sign that becomes known is entered, and its frame is asked for, unless more than omit copies of
+-- it were read. So one that silence brought is asked for once, and not again at a copy.
 unfoldable pub failure_sign_effects : ℕ → ℕ → List NoticeKind → FailureSign → List Effect
 failure_sign_effects omit slot past sign =
     Enter (Failed slot sign.node sign.cycle) ∷ (if has_enough omit (fda_of sign) past then [] else Ask (fda_frame sign) ∷ [])
@@ -31,7 +32,8 @@ fda_copy_effects omit (Got f) past =
 fda_copy_effects omit (Sent f) past = []
 fda_copy_effects omit Bad past = []
 
--- the sign in the notice, and then those of silence: what was read before it is given, and what the node knew then
+-- the sign in the notice, and then those of silence: what was read before it is given, and what the
+-- node knew then
 unfoldable pub failures_at : Parameters → ℕ → NoticeKind → List NoticeKind → Knowledge → List Effect
 failures_at p i notice before known =
     flat_map (failure_sign_effects p.omit (length before) (notice ∷ before)) (told_in i (length before) notice known)
@@ -61,12 +63,13 @@ is_own_sign i Bad = false
 unfoldable pub life_signs_sent : ℕ → List NoticeKind → ℕ
 life_signs_sent i past = count_by (is_own_sign i) past
 
--- whether a life sign is due in the slot: the node is a member, and its own last life lies just the life interval back
+-- whether a life sign is due in the slot: the node is a member, and its own last life lies just the
+-- life interval back
 abbrev pub is_due : ℕ → ℕ → ℕ → Knowledge → Bool
 is_due life i slot knowledge = has knowledge.members i && slot == knowledge.last + life
 
--- A member asks for its next life sign in the very slot in which it is due. A node that is no member then misses it, until its last
--- life is another one.
+-- A member asks for its next life sign in the very slot in which it is due. A node that is no
+-- member then misses it, until its last life is another one.
 abbrev pub life_sign : ℕ → ℕ → ℕ → ℕ → Knowledge → ℕ → List Effect
 life_sign life inc i slot knowledge sent = if is_due life i slot knowledge then Ask (els_frame inc i sent) ∷ [] else []
 

@@ -1,4 +1,5 @@
--- Membership in a turn: the exchange of vectors, the view at the end of a cycle, and the scripted asks to join and to leave.
+-- Membership in a turn: the exchange of vectors, the view at the end of a cycle, and the scripted
+-- asks to join and to leave.
 use Rattle.std.specs.Prelude.{ℕ, ◌==◌, ◌&&◌, ◌||◌, ◌++◌, Bool, nat_lt, if◌then◌else◌, List, [], ◌∷◌, length, filter}
 use Rattle.std.specs.List.{flat_map}
 use Rattle.cany_base.specs.declared.class.Class.TheVariants as class

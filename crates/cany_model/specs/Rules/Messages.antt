@@ -19,7 +19,8 @@ pub record Message : Type 0 where
 abbrev pub is_from : ℕ → SendAsk → Bool
 is_from node send = send.node == node
 
--- the message of a send that comes after these others: its sequence number counts those of the same origin
+-- the message of a send that comes after these others: its sequence number counts those of the same
+-- origin
 abbrev pub message_of : List SendAsk → SendAsk → Message
 message_of earlier send = record {
   slot = send.slot;
@@ -50,7 +51,8 @@ data_frame m = record { class = data_class m.service; number = m.seq; node = m.o
 unfoldable pub is_service : Service → Service → Bool
 is_service a b = same_class (data_class a) (data_class b)
 
--- what names the frame of a message of this service and key: that of its data, and those that confirm and accept it
+-- what names the frame of a message of this service and key: that of its data, and those that
+-- confirm and accept it
 abbrev pub data_of : Service → MsgKey → Identity
 data_of by key = record { class = data_class by; number = key.seq; node = key.origin }
 

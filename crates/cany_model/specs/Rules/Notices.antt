@@ -1,4 +1,5 @@
--- When the notices of a node are those of a run of the scenario, as far as its protocols rest on it.
+-- When the notices of a node are those of a run of the scenario, as far as its protocols rest on
+-- it.
 use Rattle.std.specs.Prelude.{◌≡◌, ◌<◌, ◌≤◌, ◌*◌, ◌/◌, ◌&&◌, ℕ, Bool, true, false, nat_lt, List, length, Contains, Option, Some, None}
 use Rattle.cany_base.specs.declared.class.Class.{Class}
 use Rattle.cany_base.specs.declared.class.Class.TheVariants.{Accept, Rha, Els, Fda, Join, Leave, Confirm, Tot, Rel, Ed}
@@ -28,12 +29,14 @@ pub record IsDataOf (scenario : ScenarioParts) (kind : Service) (f : FrameParts)
 abbrev pub NamesMessage : ScenarioParts → Service → FrameParts → Type 0
 NamesMessage scenario kind f = IsOfMessage scenario kind (identity_of f)
 
--- the frame names a node of the bus, and a number that it can have reached after so many intervals of this length
+-- the frame names a node of the bus, and a number that it can have reached after so many intervals
+-- of this length
 pub record NamesNode (scenario : ScenarioParts) (interval slot : ℕ) (f : FrameParts) : Type 0 where
   pub node : f.node < scenario.params.nodes
   pub number : f.number ≤ slot / interval
 
--- the frame is a life sign of a node of the bus: before it as many of its life intervals have passed as its number tells
+-- the frame is a life sign of a node of the bus: before it as many of its life intervals have
+-- passed as its number tells
 pub record NamesLife (scenario : ScenarioParts) (slot : ℕ) (f : FrameParts) : Type 0 where
   pub node : f.node < scenario.params.nodes
   pub passed : f.number * scenario.params.life ≤ slot
@@ -57,12 +60,13 @@ IsReadable scenario slot Bad = Unit {0}
 IsReadable scenario slot (Got f) = BelongsTo scenario slot f.class f
 IsReadable scenario slot (Sent f) = BelongsTo scenario slot f.class f
 
--- of the node's own life signs there are so few in these notices that a life interval can have passed before each by this slot
+-- of the node's own life signs there are so few in these notices that a life interval can have
+-- passed before each by this slot
 abbrev pub HasFewSigns : ScenarioParts → ℕ → List NoticeKind → ℕ → Type 0
 HasFewSigns scenario i past slot = life_signs_sent i past * scenario.params.life ≤ slot
 
--- the notice that comes after these, newest first: its slot is the next, and is one of the run; a frame in it belongs to the
--- scenario
+-- the notice that comes after these, newest first: its slot is the next, and is one of the run; a
+-- frame in it belongs to the scenario
 pub record IsNextNotice (scenario : ScenarioParts) (past : List NoticeKind) (notice : Notice) : Type 0 where
   pub slot : notice.slot ≡ length past
   pub within : notice.slot < scenario.params.slots
@@ -83,13 +87,15 @@ abbrev pub CarriesMore : Parameters → ℕ → FrameParts → Option Nodes → 
 CarriesMore p cycle f None = ⊥
 CarriesMore p cycle f (Some v) = (w : Nodes) → vector_in p.format cycle f ≡ Some w → IsPart v w
 
--- a vector of its own that it reads as sent, while vectors of the cycle are exchanged, has all of its present one
+-- a vector of its own that it reads as sent, while vectors of the cycle are exchanged, has all of
+-- its present one
 abbrev pub IsSentWithMore : Parameters → ℕ → ℕ → Option Nodes → FrameParts → Type 0
 IsSentWithMore p i slot vector f =
     f.class ≡ Rha → f.node ≡ i → f.number ≡ cycle_of p slot → is_exchange p slot ≡ true → CarriesMore p (cycle_of p slot) f vector
 
--- The notice can be read by node i in the slot, as far as vectors go, where this is its vector before. So the copies of its vector, and
--- its own transmission of it, can be counted from the moment at which it came to have it.
+-- The notice can be read by node i in the slot, as far as vectors go, where this is its vector
+-- before. So the copies of its vector, and its own transmission of it, can be counted from the
+-- moment at which it came to have it.
 abbrev pub IsReadableVector : Parameters → ℕ → ℕ → Option Nodes → NoticeKind → Type 0
 IsReadableVector p i slot vector Idle = Unit {0}
 IsReadableVector p i slot vector (Got f) = IsReadAfterStart p slot f

@@ -1,4 +1,5 @@
--- A protocol as one value: what a turn and a settled message ask of it, and what it names and delivers.
+-- A protocol as one value: what a turn and a settled message ask of it, and what it names and
+-- delivers.
 use Rattle.std.specs.Prelude.{ℕ, Bool, false, List}
 use Rattle.cany_base.specs.declared.class.Class.{Class}
 use Rattle.cany_base.specs.declared.message.Service.{Service}
@@ -23,6 +24,7 @@ pub record Protocol : Type 0 where
 abbrev pub nothing_ahead : ScenarioParts → Message → ℕ → List NoticeKind → Bool
 nothing_ahead scenario m i past = false
 
--- One that is no service: by it no origin asks for a message, none is delivered, and it has nothing ahead.
+-- One that is no service: by it no origin asks for a message, none is delivered, and it has nothing
+-- ahead.
 abbrev pub no_service : TurnRule → (Class → Bool) → Protocol
 no_service effects names = record { effects = effects; originates = false; ahead = nothing_ahead; names = names; delivers = λ by. false }

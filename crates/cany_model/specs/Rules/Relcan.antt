@@ -1,5 +1,5 @@
--- RELCAN: the origin confirms its message, and a node that reads no confirmation in time falls back to sending the data
--- frame itself.
+-- RELCAN: the origin confirms its message, and a node that reads no confirmation in time falls back
+-- to sending the data frame itself.
 use Rattle.std.specs.Prelude.{ℕ, ◌++◌, ◌==◌, ◌&&◌, ◌||◌, Bool, false, not, if◌then◌else◌, List, [], ◌∷◌, drop, slice_index_or}
 use Rattle.std.specs.List.{list_any}
 use Rattle.cany_base.specs.declared.class.Class.TheVariants as class
@@ -44,8 +44,8 @@ abbrev pub is_first_got : Identity → List NoticeKind → Bool
 is_first_got x [] = false
 is_first_got x (notice ∷ before) = is_got x notice && not (has_copy x before)
 
--- Whether node i falls back in the turn of the newest notice: the first copy was read so many slots before as the timer takes,
--- and no confirmation up to this slot.
+-- Whether node i falls back in the turn of the newest notice: the first copy was read so many slots
+-- before as the timer takes, and no confirmation up to this slot.
 abbrev pub falls_back : ℕ → ℕ → Identity → List NoticeKind → Bool
 falls_back timer i x past = is_timed i x && is_first_got x (drop timer past) && not (has_confirm x past)
 
@@ -54,7 +54,8 @@ unfoldable pub fell_back : ℕ → ℕ → Identity → List NoticeKind → Bool
 fell_back timer i x [] = false
 fell_back timer i x (notice ∷ before) = falls_back timer i x (notice ∷ before) || fell_back timer i x before
 
--- whether node i has a timer of the message ahead: a copy started it, its slot is not read yet, and no confirmation was read
+-- whether node i has a timer of the message ahead: a copy started it, its slot is not read yet, and
+-- no confirmation was read
 abbrev pub has_timer_ahead : ScenarioParts → Message → ℕ → List NoticeKind → Bool
 has_timer_ahead scenario m i past =
     let x = identity_of (data_frame m) in
@@ -85,8 +86,8 @@ relcan_at p i (Sent f) before =
     then delivery_effects service.Rel i f (Sent f) before ++ confirm_effects i f
     else []
 
--- A node that falls back asks for the frame, unless it has read more than omit copies by then. The notice that may have
--- started the timer is given apart.
+-- A node that falls back asks for the frame, unless it has read more than omit copies by then. The
+-- notice that may have started the timer is given apart.
 abbrev pub fall_back_effects : Parameters → ℕ → List NoticeKind → NoticeKind → List Effect
 fall_back_effects p i past Idle = []
 fall_back_effects p i past (Got f) =
@@ -94,7 +95,8 @@ fall_back_effects p i past (Got f) =
 fall_back_effects p i past (Sent f) = []
 fall_back_effects p i past Bad = []
 
--- what the timer does that runs out in this turn, if one does: the notice of as many slots before started it
+-- what the timer does that runs out in this turn, if one does: the notice of as many slots before
+-- started it
 unfoldable pub timer_effects : Parameters → ℕ → List NoticeKind → List Effect
 timer_effects p i past = fall_back_effects p i past (slice_index_or past p.confirm Idle)
 

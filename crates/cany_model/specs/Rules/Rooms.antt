@@ -10,7 +10,8 @@ use Rattle.cany_base.specs.Scenario.{ScenarioParts}
 use Rattle.cany_model.specs.Bus.Frames.{Identity}
 use Rattle.cany_model.specs.Rules.Messages.{IsOfMessage, is_service}
 
--- the identity names a node of the bus, and a number that it can reach in a run by intervals of this length
+-- the identity names a node of the bus, and a number that it can reach in a run by intervals of
+-- this length
 pub record IsOfNode (scenario : ScenarioParts) (interval : ℕ) (x : Identity) : Type 0 where
   pub node : x.node < scenario.params.nodes
   pub number : x.number ≤ scenario.params.slots / interval
@@ -33,8 +34,8 @@ pub record IsOfAsk (scenario : ScenarioParts) (asks : List NodeAsk) (i : ℕ) (x
   pub node : x.node ≡ i
   pub number : x.number ≡ cycle_of scenario.params ask.slot
 
--- A frame of this identity may come to wait at node i, by its class: it is a frame of a message of the service, a vector of its own, a
--- life sign, a failure sign, or a scripted ask of its own.
+-- A frame of this identity may come to wait at node i, by its class: it is a frame of a message of
+-- the service, a vector of its own, a life sign, a failure sign, or a scripted ask of its own.
 abbrev pub IsAskableAs : ScenarioParts → ℕ → Identity → Class → Type 0
 IsAskableAs scenario i x Accept = IsOfMessage scenario service.Tot x
 IsAskableAs scenario i x Rha = IsOfVector scenario i x

@@ -1,4 +1,5 @@
--- The scripted sends: in its turn of the scripted slot the origin asks for the data frame of an EDCAN or RELCAN message.
+-- The scripted sends: in its turn of the scripted slot the origin asks for the data frame of an
+-- EDCAN or RELCAN message.
 use Rattle.std.specs.Prelude.{ℕ, ◌==◌, ◌&&◌, ◌||◌, Bool, true, false, nat_lt, if◌then◌else◌, List, [], ◌∷◌, length, filter, map}
 use Rattle.cany_base.specs.declared.class.Class.TheVariants as class
 use Rattle.cany_base.specs.declared.message.Service.{Service}

@@ -1,5 +1,6 @@
--- TOTCAN: a node delivers a message once it has heard in time that the message is accepted, in the order in which it last read the
--- data frames, and passes over a message that was not accepted in time. So all nodes are to deliver in one order.
+-- TOTCAN: a node delivers a message once it has heard in time that the message is accepted, in the
+-- order in which it last read the data frames, and passes over a message that was not accepted in
+-- time. So all nodes are to deliver in one order.
 use Rattle.std.specs.Prelude.{ℕ, ◌+◌, ◌==◌, ◌&&◌, ◌||◌, ◌++◌, Bool, true, false, not, nat_lt, if◌then◌else◌, List, [], ◌∷◌, Option, Some, None, length, take, filter, map, slice_index_or}
 use Rattle.std.specs.List.{list_any}
 use Rattle.cany_base.specs.declared.class.Class.TheVariants as class
@@ -45,8 +46,8 @@ tot_in Bad = None
 
 -- ---- places
 
--- Whether the notice brings the data frame of the message, got or sent. The newest that does is the place of the message, so that a
--- later one moves it, also where the message was closed.
+-- Whether the notice brings the data frame of the message, got or sent. The newest that does is the
+-- place of the message, so that a later one moves it, also where the message was closed.
 abbrev pub holds : MsgKey → NoticeKind → Bool
 holds key notice = is_got (tot_of_key key) notice || is_sent (tot_of_key key) notice
 
@@ -61,8 +62,8 @@ after_place key (notice ∷ before) = if holds key notice then [] else notice �
 
 -- ---- acceptance
 
--- A message is open so long as its place is one of the newest `bound` notices: a frame that accepts it, got next, is in time.
--- Once its place is older it is closed.
+-- A message is open so long as its place is one of the newest `bound` notices: a frame that accepts
+-- it, got next, is in time. Once its place is older it is closed.
 abbrev pub can_be_accepted : ℕ → MsgKey → List NoticeKind → Bool
 can_be_accepted bound key past = is_recent bound key past
 
@@ -72,12 +73,14 @@ is_heard bound key [] = false
 is_heard bound key (notice ∷ before) =
     not (holds key notice) && (is_heard bound key before || is_got (accept_of_key key) notice && can_be_accepted bound key before)
 
--- whether the message is accepted at node i: that was heard, or the node is the origin and has read its own transmission
+-- whether the message is accepted at node i: that was heard, or the node is the origin and has read
+-- its own transmission
 unfoldable pub is_accepted : ℕ → ℕ → MsgKey → List NoticeKind → Bool
 is_accepted bound i key past = is_heard bound key past || key.origin == i && has_own (tot_of_key key) past
 
--- The origin accepts its message once it has read its own transmission. A frame that accepts an open message follows the eager
--- rule, by what was read after the place. One that accepts any other message is ignored.
+-- The origin accepts its message once it has read its own transmission. A frame that accepts an
+-- open message follows the eager rule, by what was read after the place. One that accepts any other
+-- message is ignored.
 unfoldable pub accept_effects : Parameters → ℕ → NoticeKind → List NoticeKind → List Effect
 accept_effects p i Idle before = []
 accept_effects p i Bad before = []
@@ -87,12 +90,14 @@ accept_effects p i (Got f) before =
     else []
 accept_effects p i (Sent f) before = if same_class f.class class.Tot && f.node == i then Ask (accept_frame f) ∷ [] else []
 
--- the message of this data frame closes if its place is older than the newest `bound` notices: no frame that accepts it waits then
+-- the message of this data frame closes if its place is older than the newest `bound` notices: no
+-- frame that accepts it waits then
 abbrev pub closing_of : ℕ → List NoticeKind → Option FrameParts → List Effect
 closing_of bound past None = []
 closing_of bound past (Some f) = if can_be_accepted bound (message_in f) past then [] else Withdraw (accept_of_key (message_in f)) ∷ []
 
--- what closes in the turn of the newest notice: the message whose place came `bound` notices before, if there is one
+-- what closes in the turn of the newest notice: the message whose place came `bound` notices
+-- before, if there is one
 unfoldable pub closing_effects : ℕ → List NoticeKind → List Effect
 closing_effects bound past = closing_of bound past (tot_in (slice_index_or past bound Idle))
 
@@ -102,25 +107,28 @@ closing_effects bound past = closing_of bound past (tot_in (slice_index_or past 
 abbrev pub is_place : ℕ → List NoticeKind → MsgKey → Bool
 is_place age past key = not (is_recent age key past)
 
--- whether the message of this data frame, which came in a notice of this age, is neither accepted nor closed: it holds later ones back
+-- whether the message of this data frame, which came in a notice of this age, is neither accepted
+-- nor closed: it holds later ones back
 abbrev pub is_pending : Parameters → ℕ → List NoticeKind → ℕ → Option FrameParts → Bool
 is_pending p i past age None = false
 is_pending p i past age (Some f) =
     is_place age past (message_in f) && nat_lt age p.bound && not (is_accepted p.bound i (message_in f) past)
 
--- whether no message holds later ones back whose place is one of these notices, the first of which has this age
+-- whether no message holds later ones back whose place is one of these notices, the first of which
+-- has this age
 unfoldable pub is_clear : Parameters → ℕ → List NoticeKind → ℕ → List NoticeKind → Bool
 is_clear p i past age [] = true
 is_clear p i past age (notice ∷ older) = not (is_pending p i past age (tot_in notice)) && is_clear p i past (age + 1) older
 
--- The message of this data frame, which came in a notice of this age, is done if it is accepted and none with an older place holds
--- it back.
+-- The message of this data frame, which came in a notice of this age, is done if it is accepted and
+-- none with an older place holds it back.
 abbrev pub done_at : Parameters → ℕ → List NoticeKind → ℕ → List NoticeKind → Option FrameParts → List FrameParts
 done_at p i past age older None = []
 done_at p i past age older (Some f) =
     if is_place age past (message_in f) && is_accepted p.bound i (message_in f) past && is_clear p i past (age + 1) older then f ∷ [] else []
 
--- those that are done of these notices, the first of which has this age, in the order of their places
+-- those that are done of these notices, the first of which has this age, in the order of their
+-- places
 unfoldable pub done_from : Parameters → ℕ → List NoticeKind → ℕ → List NoticeKind → List FrameParts
 done_from p i past age [] = []
 done_from p i past age (notice ∷ older) = done_from p i past (age + 1) older ++ done_at p i past age older (tot_in notice)
@@ -137,12 +145,13 @@ is_among delivered f = list_any (λ g. same_identity (identity_of f) (identity_o
 abbrev pub new_among : List FrameParts → List FrameParts → List FrameParts
 new_among delivered frames = filter (λ f. not (is_among delivered f)) frames
 
--- the delivered ones and then those: a word of its own, so that a row computes the delivered ones once
+-- the delivered ones and then those: a word of its own, so that a row computes the delivered ones
+-- once
 abbrev pub with_new : List FrameParts → List FrameParts → List FrameParts
 with_new delivered frames = delivered ++ new_among delivered frames
 
--- The data frames of the messages that node i has delivered, in that order: each in the first turn in which it was done, those of
--- one turn in the order of their places.
+-- The data frames of the messages that node i has delivered, in that order: each in the first turn
+-- in which it was done, those of one turn in the order of their places.
 unfoldable pub delivered : Parameters → ℕ → List NoticeKind → List FrameParts
 delivered p i [] = []
 delivered p i (notice ∷ before) = with_new (delivered p i before) (done p i (notice ∷ before))

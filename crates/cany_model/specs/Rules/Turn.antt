@@ -26,8 +26,8 @@ protocols =
 unfoldable pub turn_effects : TurnRule
 turn_effects scenario i past = flat_map (λ protocol. protocol.effects scenario i past) protocols
 
--- The scenario as an incarnation follows it. One of a restarted node makes no scripted ask of a slot before its first one, is at
--- first no member, and tells its number.
+-- The scenario as an incarnation follows it. One of a restarted node makes no scripted ask of a
+-- slot before its first one, is at first no member, and tells its number.
 abbrev pub scenario_for : ScenarioParts → Incarnation → ScenarioParts
 scenario_for scenario inc = record scenario {
   members = if inc.number == 0 then scenario.members else nobody;
@@ -39,8 +39,8 @@ scenario_for scenario inc = record scenario {
 abbrev pub scenario_at : ScenarioParts → RunState → ℕ → ScenarioParts
 scenario_at scenario s i = scenario_for scenario (node_at s.nodes i).present
 
--- what an incarnation does in a turn, where its number is given apart, so that a node that never restarted gets the very scenario,
--- and rows compute
+-- what an incarnation does in a turn, where its number is given apart, so that a node that never
+-- restarted gets the very scenario, and rows compute
 abbrev pub effects_for : ℕ → ScenarioParts → Incarnation → ℕ → List NoticeKind → List Effect
 effects_for zero scenario inc i past = turn_effects scenario i past
 effects_for (suc number) scenario inc i past = turn_effects (scenario_for scenario inc) i past

@@ -1,4 +1,5 @@
--- Reception history vectors: in each membership cycle the nodes come to one set of nodes by exchanging it.
+-- Reception history vectors: in each membership cycle the nodes come to one set of nodes by
+-- exchanging it.
 use Rattle.std.specs.Prelude.{ℕ, ◌==◌, ◌&&◌, ◌||◌, ◌++◌, Bool, false, true, not, nat_lt, if◌then◌else◌, List, [], ◌∷◌, length, Option, Some, None, count_by, unwrap_or}
 use Rattle.std.specs.List.{list_any}
 use Rattle.cany_base.specs.declared.class.Class.TheVariants as class
@@ -30,7 +31,8 @@ rha_of cycle i = record { class = class.Rha; number = cycle; node = i }
 abbrev pub vector_in : Format → ℕ → FrameParts → Option Nodes
 vector_in format cycle f = if same_class f.class class.Rha && f.number == cycle then vector_of format f.payload else None
 
--- the vector that a notice of the slot brings: one of the present cycle that the node got while vectors are exchanged
+-- the vector that a notice of the slot brings: one of the present cycle that the node got while
+-- vectors are exchanged
 unfoldable pub brought : Parameters → ℕ → NoticeKind → Option Nodes
 brought p slot Idle = None
 brought p slot (Got f) = if is_exchange p slot then vector_in p.format (cycle_of p slot) f else None
@@ -39,7 +41,8 @@ brought p slot Bad = None
 
 -- ---- the vector of a node: none where it is no member, until another one brings one
 
--- a vector that is brought is met with the node's own, and with the set of all nodes where it has none
+-- a vector that is brought is met with the node's own, and with the set of all nodes where it has
+-- none
 abbrev pub met_with : Parameters → Option Nodes → Nodes → Nodes
 met_with p old w = meet (unwrap_or old (everybody p)) w
 
@@ -51,7 +54,8 @@ met p old (Some w) = Some (met_with p old w)
 abbrev pub ended : Parameters → ℕ → Option Nodes → Option Nodes
 ended p slot vector = if is_end p slot then vector else None
 
--- The vector after the turn of a slot. At the end of the cycle it is given up, and at the start of one it is what the node starts with.
+-- The vector after the turn of a slot. At the end of the cycle it is given up, and at the start of
+-- one it is what the node starts with.
 abbrev pub after_exchange : Parameters → ℕ → NoticeKind → Option Nodes → Option Nodes → Option Nodes
 after_exchange p slot notice start old =
     if is_start p slot then start else if is_end p slot then None else met p old (brought p slot notice)
@@ -106,8 +110,8 @@ unfoldable pub start_effects : Parameters → ℕ → ℕ → ℕ → Option Nod
 start_effects p inc i slot None = []
 start_effects p inc i slot (Some v) = if is_start p slot then Ask (rha_frame p.format inc (cycle_of p slot) i v) ∷ [] else []
 
--- All of it in the turn of a notice: what was read before it is given, the vector that the node had then, and what it starts with if a
--- cycle starts.
+-- All of it in the turn of a notice: what was read before it is given, the vector that the node had
+-- then, and what it starts with if a cycle starts.
 unfoldable pub exchange_at : Parameters → ℕ → ℕ → NoticeKind → List NoticeKind → Option Nodes → Option Nodes → List Effect
 exchange_at p inc i notice before old start =
     vector_effects p inc i (length before) (notice ∷ before) old (brought p (length before) notice)

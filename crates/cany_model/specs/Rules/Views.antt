@@ -1,4 +1,5 @@
--- Views of the site: who asks to join and to leave, what a member starts a cycle with, and how a vector becomes the view.
+-- Views of the site: who asks to join and to leave, what a member starts a cycle with, and how a
+-- vector becomes the view.
 use Rattle.std.specs.Prelude.{ℕ, ◌==◌, if◌then◌else◌, List, [], ◌∷◌, filter, map, Option, Some, None}
 use Rattle.cany_base.specs.declared.class.Class.{Class}
 use Rattle.cany_base.specs.declared.class.Class.TheVariants as class
@@ -45,8 +46,8 @@ start_of i knowledge = if has knowledge.members i then Some (start_vector knowle
 
 -- ---- the end of a cycle
 
--- The vector becomes the view. Those that were not in the view before are newly admitted. Who is in it asks no longer to join, and who
--- is not in it no longer to leave.
+-- The vector becomes the view. Those that were not in the view before are newly admitted. Who is in
+-- it asks no longer to join, and who is not in it no longer to leave.
 abbrev pub with_view : ℕ → ℕ → Nodes → Knowledge → Knowledge
 with_view i slot v knowledge = record (after_admitting i slot (minus v knowledge.members) knowledge) {
   members = v;
@@ -66,13 +67,15 @@ ask_frame class inc number i = record { class = class; number = number; node = i
 abbrev pub ask_of : Class → ℕ → ℕ → Identity
 ask_of class number i = record { class = class; number = number; node = i }
 
--- The frames of this class by which node i may have asked wait no longer, whatever their number: one withdrawal for each of its entries is the
--- same, for nothing but an entry makes it ask for one.
+-- The frames of this class by which node i may have asked wait no longer, whatever their number:
+-- one withdrawal for each of its entries is the same, for nothing but an entry makes it ask for
+-- one.
 abbrev pub withdrawn_asks : Class → Parameters → ℕ → List NodeAsk → List Effect
 withdrawn_asks class p i asks =
     map (λ ask. Withdraw (ask_of class (cycle_of p ask.slot) i)) (filter (λ ask. ask.node == i) asks)
 
--- A node of the new view enters it, and withdraws its asks to join. One that is not in it withdraws its asks to leave.
+-- A node of the new view enters it, and withdraws its asks to join. One that is not in it withdraws
+-- its asks to leave.
 unfoldable pub view_effects : Parameters → List NodeAsk → List NodeAsk → ℕ → ℕ → Option Nodes → List Effect
 view_effects p joins leaves i slot None = []
 view_effects p joins leaves i slot (Some v) =

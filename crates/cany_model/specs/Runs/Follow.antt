@@ -1,4 +1,5 @@
--- What keeps a journal from being legal and whole: its first step that is refused, or what it leaves undone.
+-- What keeps a journal from being legal and whole: its first step that is refused, or what it
+-- leaves undone.
 use Rattle.std.specs.Prelude.{ℕ, ◌+◌, if◌then◌else◌, List, [], ◌∷◌, take, Option, Some, None, option_map, unwrap_or}
 use Rattle.cany_base.specs.declared.step.Step.{Step}
 use Rattle.cany_base.specs.Scenario.{ScenarioParts}

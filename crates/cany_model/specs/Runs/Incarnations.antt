@@ -25,7 +25,8 @@ span_from e = record { since = e.incarnation.since; stopped = e.stopped; read = 
 abbrev pub span_of : RunState → ℕ → ℕ → Option Span
 span_of s i number = option_map span_from (incarnation_of s i number)
 
--- the log of an incarnation of node i: an earlier one keeps the log that it had when the next one began
+-- the log of an incarnation of node i: an earlier one keeps the log that it had when the next one
+-- began
 abbrev pub log_of : ScenarioParts → RunState → ℕ → ℕ → List LogEntry
 log_of scenario s i number =
     option_map_or (λ e. log_from (scenario_for scenario e.incarnation) i (ended_history i s.trace e)) (incarnation_of s i number) []

@@ -1,4 +1,5 @@
--- The round robin journal: per slot the slot, and then the turns of the running nodes that have something to read, ascending.
+-- The round robin journal: per slot the slot, and then the turns of the running nodes that have
+-- something to read, ascending.
 use Rattle.std.specs.Prelude.{ℕ, zero, suc, ◌&&◌, Bool, nat_lt, List, [], ◌∷◌, ◌++◌, length, filter, map}
 use Rattle.std.specs.List.{range_with_len}
 use Rattle.cany_base.specs.declared.step.Step.{Step}

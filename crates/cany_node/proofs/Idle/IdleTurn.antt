@@ -1,4 +1,5 @@
--- An idle slot that is nothing to the protocols, and for which nothing is scripted, is nothing to the node.
+-- An idle slot that is nothing to the protocols, and for which nothing is scripted, is nothing to
+-- the node.
 use Rattle.std.proofs.Common.{◌≡◌, ℕ, ◌+◌, List, [], ◌∷◌, ◌++◌, filter, length, map, None, refl, ap, sym, ◌∙◌, subst, arith, append-nil}
 use Rattle.std.specs.List.{flat_map}
 use Rattle.cany_base.specs.declared.message.NodeAsk.{NodeAsk}

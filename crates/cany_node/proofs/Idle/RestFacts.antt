@@ -1,4 +1,5 @@
--- A node that rests in many idle slots, one after another, stands for all of them, and nothing is done in any.
+-- A node that rests in many idle slots, one after another, stands for all of them, and nothing is
+-- done in any.
 use Rattle.std.proofs.Common.{◌≡◌, ℕ, zero, suc, ◌+◌, ◌≤◌, ◌<◌, List, [], ◌∷◌, ◌++◌, length, replicate, ap, sym, ◌∙◌, subst, arith}
 use Rattle.std.proofs.lemmas.List.{length-append, length-replicate}
 use Rattle.cany_base.specs.declared.notice.Notice.{Notice}

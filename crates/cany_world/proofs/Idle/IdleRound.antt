@@ -1,4 +1,5 @@
--- One idle slot with its turns: the slot carries nothing and stops nobody, and the turn of a node that has nothing to do only reads it.
+-- One idle slot with its turns: the slot carries nothing and stops nobody, and the turn of a node
+-- that has nothing to do only reads it.
 use Rattle.std.specs.Prelude.{◌≡◌, ℕ, zero, suc, ◌+◌, ◌-◌, ◌<◌, ◌≤◌, ◌&&◌, ◌||◌, Bool, true, false, nat_lt, if◌then◌else◌, List, [], ◌∷◌, ◌++◌, Option, Some, None, Contains, is_none, length, map, drop, filter, refl}
 use Rattle.std.specs.List.{range_with_len}
 use Rattle.std.proofs.Common.{sym, ap, ◌∙◌, subst, inl, inr, arith}
@@ -151,8 +152,8 @@ slot_done scenario s nothing_to_do room =
 abbrev AllMayTurn : RunState → Type 0
 AllMayTurn u = (i : ℕ) → runs (node_at u.nodes i) ≡ true → MayTurn u i
 
--- From the state u on the running nodes below k took their turns. To each it is as if it had taken its turn alone, and the other nodes
--- are as they were.
+-- From the state u on the running nodes below k took their turns. To each it is as if it had taken
+-- its turn alone, and the other nodes are as they were.
 record HaveTurned (scenario : ScenarioParts) (u t : RunState) (k : ℕ) : Type 0 where
   trace : t.trace ≡ u.trace
   count : length t.nodes ≡ length u.nodes
@@ -349,7 +350,8 @@ round-is scenario s idle =
     ∙ ap (λ test. Slot ∷ map (λ i. Turn i) (filter test (range_with_len 0 (length (idle_slot s).nodes)))) tests
     ∙ ap (λ n. Slot ∷ map (λ i. Turn i) (filter (λ i. runs (node_at s.nodes i)) (range_with_len 0 n))) (length-map s.nodes one_unread)
 
--- The state after them. To each running node it is as if it had taken its turn alone after the slot.
+-- The state after them. To each running node it is as if it had taken its turn alone after the
+-- slot.
 pub record IsAfterRound (scenario : ScenarioParts) (s t : RunState) : Type 0 where
   pub trace : t.trace ≡ idle_trace 1 s.trace
   pub count : length t.nodes ≡ length s.nodes

@@ -1,5 +1,5 @@
--- A stretch of idle slots: the steps that round robin makes in it, of which no turn before the last slot does anything, and the state that
--- they leave.
+-- A stretch of idle slots: the steps that round robin makes in it, of which no turn before the last
+-- slot does anything, and the state that they leave.
 use Rattle.std.specs.Prelude.{◌≡◌, ℕ, zero, suc, ◌+◌, ◌≤◌, true, List, [], ◌∷◌, ◌++◌, length, map, filter, refl}
 use Rattle.std.specs.List.{range_with_len}
 use Rattle.std.proofs.Common.{sym, ap, ◌∙◌, subst, inl, inr, arith, append_assoc, add-one}

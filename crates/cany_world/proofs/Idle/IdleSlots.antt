@@ -1,4 +1,5 @@
--- Idle slots in a run: in what state the next slots are idle and lead no node to do anything, and what they leave.
+-- Idle slots in a run: in what state the next slots are idle and lead no node to do anything, and
+-- what they leave.
 use Rattle.std.specs.Prelude.{◌≡◌, ℕ, zero, suc, ◌+◌, ◌<◌, true, false, if◌then◌else◌, List, [], ◌∷◌, ◌++◌, length, filter, map}
 use Rattle.std.specs.List.{range_with_len}
 use Rattle.cany_base.specs.declared.step.Step.{Step}
@@ -11,7 +12,8 @@ use Rattle.cany_model.specs.Rules.Turn.{effects_for}
 use Rattle.can_bus.specs.Rest.{idle_trace}
 use Rattle.cany_world.specs.Resting.{IsOpen}
 
--- A node after so many idle slots: a running one has read them, of a stopped one a run goes on counting the slots as unread.
+-- A node after so many idle slots: a running one has read them, of a stopped one a run goes on
+-- counting the slots as unread.
 abbrev pub rested : ℕ → NodeState → NodeState
 rested slots node = if runs node then node else record node { unread = node.unread + slots }
 
@@ -34,7 +36,8 @@ pub record HasNothingToDo (node : NodeState) : Type 0 where
   pub unread : node.unread ≡ 0
   pub counters : exceeds node ≡ false
 
--- So many slots are left, of which the script says nothing. The running nodes have nothing to do, and at none of the slots have they anything to do.
+-- So many slots are left, of which the script says nothing. The running nodes have nothing to do,
+-- and at none of the slots have they anything to do.
 pub record MayRest (scenario : ScenarioParts) (s : RunState) (slots : ℕ) : Type 0 where
   pub left : IsOpen scenario s slots
   pub nothing_to_do : (i : ℕ) → runs (node_at s.nodes i) ≡ true → HasNothingToDo (node_at s.nodes i)

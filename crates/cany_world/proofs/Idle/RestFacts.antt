@@ -1,4 +1,5 @@
--- A stretch of idle slots: that the next slots are one, and what idle slots leave of a controller and its node.
+-- A stretch of idle slots: that the next slots are one, and what idle slots leave of a controller
+-- and its node.
 use Rattle.std.proofs.Common.{◌≡◌, ℕ, zero, suc, ◌+◌, ◌<◌, ◌≤◌, true, false, List, [], ◌∷◌, ◌++◌, length, map, take, replicate, refl, ap, sym, ◌∙◌, subst, inl, inr, arith}
 use Rattle.std.specs.List.{range_with_len}
 use Rattle.std.specs.Option.{option_map_or}
@@ -80,7 +81,8 @@ nothing_to_do_of scenario trace i next slots node c v kept running idle = record
       ∙ ap (λ n. nat_lt greatest_error_counter c.transmit || nat_lt greatest_error_counter n) (sym kept.receive) ∙ idle.counters;
 }
 
--- a node that has read so many notices has nothing to do in slots before this one, of which there are none
+-- a node that has read so many notices has nothing to do in slots before this one, of which there
+-- are none
 rests_on : (next slots : ℕ) (v : IncarnationsParts) (it : NodeParts) → (0 < slots → IncarnationRests (next + slots) v)
     → slice_get v.nodes v.present ≡ Some it → it.read ≡ next → RestsUntil (next + slots) it
 rests_on next zero v it rests at read = λ scenario past stands since early within. absurd (omega (arith, read, since, early))

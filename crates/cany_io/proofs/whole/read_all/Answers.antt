@@ -3,7 +3,8 @@ use Rattle.std.proofs.lemmas.List.{length-take, length-take-le, take-append-le}
 use Rattle.cany_io.proofs.SourceFacts.{Gives-append, given_more, length-append-take}
 use Rattle.cany_io.proofs.whole.read_all.Goals as goal
 
--- the bytes of this turn come after those of the turns before, where memory or the limit ends the reading too
+-- the bytes of this turn come after those of the turns before, where memory or the limit ends the
+-- reading too
 pub returns-then-count-space-clause-at_most : goal.returns-then-count-space-clause-at_most
 returns-then-count-space-clause-at_most g c =
     let front = take c.in_ok-count.count c.read.new.buf in

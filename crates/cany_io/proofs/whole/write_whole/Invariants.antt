@@ -2,7 +2,8 @@ use Rattle.std.proofs.Common.{◌≡◌, length, take, ◌-◌, ◌≤◌}
 use Rattle.cany_io.specs.Sink.{Takes}
 use Rattle.cany_io.proofs.whole.write_whole.Given as goal
 
--- so many bytes were taken, the count of faults did not fall, and the sink is untouched at the start
+-- so many bytes were taken, the count of faults did not fall, and the sink is untouched at the
+-- start
 abbrev pub invariant-pieces : goal.invariant-pieces
 invariant-pieces g l = record {
   within : l.written ≤ length l.bytes;

@@ -1,4 +1,5 @@
--- Counts of slots in a window, by ages: at most so many where no more of them stand together, and sums over names that cover them.
+-- Counts of slots in a window, by ages: at most so many where no more of them stand together, and
+-- sums over names that cover them.
 use Rattle.std.proofs.Common.{◌≡◌, ℕ, zero, suc, ◌+◌, ◌*◌, ◌<◌, ◌≤◌, inl, inr, Bool, true, false, List, [], ◌∷◌, take, drop, count_by, refl, sym, ◌∙◌, subst, arith}
 use Rattle.std.proofs.lemmas.Bool.{cases_Bool, cases_eq, false≢true}
 use Rattle.cany_base.specs.declared.slot_note.SlotNote.{SlotNote}

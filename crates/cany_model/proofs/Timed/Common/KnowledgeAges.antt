@@ -1,4 +1,5 @@
--- What a turn makes of the view, of the node's own last life and of the life that others show; and what a node would know if it had read all.
+-- What a turn makes of the view, of the node's own last life and of the life that others show; and
+-- what a node would know if it had read all.
 use Rattle.std.proofs.Common.{◌≡◌, ℕ, ◌<◌, ◌≤◌, ◌⊎◌, ◌==◌, ◌&&◌, not, inl, inr, if◌then◌else◌, true, false, List, [], ◌∷◌, ◌++◌, length, map, Option, Some, None, refl, ap, sym, ◌∙◌, arith}
 use Rattle.std.proofs.lemmas.Bool.{and_from, and_parts, both_ways, cases_Bool, cond_both, eq-eqb, eqb-true, false≢true, not-true, not_from_false}
 use Rattle.cany_base.specs.declared.notice.NoticeKind.{NoticeKind}

@@ -1,5 +1,5 @@
--- The last of some effects on the frames of an identity, and which of them wait then. Of a class that one protocol alone names a turn
--- says what that protocol says.
+-- The last of some effects on the frames of an identity, and which of them wait then. Of a class
+-- that one protocol alone names a turn says what that protocol says.
 use Rattle.std.proofs.Common.{◌≡◌, ℕ, ◌||◌, ◌⊎◌, inl, inr, Bool, true, false, not, if◌then◌else◌, List, [], ◌∷◌, ◌++◌, filter, refl, ap, sym, ◌∙◌}
 use Rattle.std.specs.List.{AllByRecursion, flat_map}
 use Rattle.std.proofs.lemmas.Bool.{both_ways, cases_Bool, cond_both, false_from_ne_true, not-false, not-true}

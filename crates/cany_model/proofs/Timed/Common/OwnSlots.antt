@@ -1,5 +1,6 @@
--- What a node has sent lies in slots that its present incarnation sees, or more than bound + lag slots before the first one in which that
--- takes part. So in one window of bound + lag slots only one incarnation of a node sends.
+-- What a node has sent lies in slots that its present incarnation sees, or more than bound + lag
+-- slots before the first one in which that takes part. So in one window of bound + lag slots only
+-- one incarnation of a node sends.
 use Rattle.std.proofs.Common.{◌≡◌, ℕ, zero, suc, ◌+◌, ◌-◌, ◌<◌, ◌≤◌, ◌⊎◌, inl, inr, true, false, List, [], ◌∷◌, length, ap, sym, ◌∙◌, subst, arith}
 use Rattle.std.proofs.lemmas.Bool.{cases_Bool, cases_lt, both_ways, false≢true}
 use Rattle.cany_base.specs.declared.slot_note.SlotNote.{SlotNote}
@@ -136,7 +137,8 @@ sent_when p nodes s i inc o own age x h = elim (cases_Bool (is_hidden inc (note_
   ]
 ]
 
--- so two slots in which a node sends, of which its present incarnation sees only the newer, lie more than bound + lag slots apart
+-- so two slots in which a node sends, of which its present incarnation sees only the newer, lie
+-- more than bound + lag slots apart
 pub sent_apart : (p : Parameters) (nodes : ℕ) (s : RunState) (inc : Incarnation) → IsOrderly nodes s → (newer older : ℕ) → newer < length s.trace
     → Sees inc s.trace newer → IsLongBefore p inc s.trace older → newer + (p.bound + p.lag) < older
 sent_apart p nodes s inc o newer older there plain before =

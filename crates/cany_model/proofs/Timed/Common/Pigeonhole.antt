@@ -1,5 +1,6 @@
--- Of more consecutive numbers than pass a test one does not pass it. So where few slots of each window are of two kinds, a slot
--- can be found that is not of the first kind and follows none of the second closely.
+-- Of more consecutive numbers than pass a test one does not pass it. So where few slots of each
+-- window are of two kinds, a slot can be found that is not of the first kind and follows none of
+-- the second closely.
 use Rattle.std.specs.Prelude.{slice_index_or}
 use Rattle.std.proofs.Common.{◌≡◌, ℕ, zero, suc, ◌+◌, ◌*◌, ◌<◌, ◌≤◌, ◌⊎◌, ◌||◌, inl, inr, Bool, true, false, List, [], ◌∷◌, count_by, drop, length, take, refl, ap, sym, ◌∙◌, arith}
 use Rattle.std.specs.List.{AllByRecursion, range_with_len}
@@ -117,8 +118,9 @@ none_soon t (suc span) a h k below =
       | inr other ↦ none_soon t span a parts.1 k (omega (arith, below, other))
     ]
 
--- Where any n consecutive numbers have few that pass the first test and few that pass the second, each n of them have one that does
--- not pass the first, and none of whose next ones passes the second.
+-- Where any n consecutive numbers have few that pass the first test and few that pass the second,
+-- each n of them have one that does not pass the first, and none of whose next ones passes the
+-- second.
 pub free_number : (s t : ℕ → Bool) (span n most_s most_t : ℕ) → most_s + span * most_t < n
     → ((d : ℕ) → count_by s (range_with_len d n) ≤ most_s) → ((d : ℕ) → count_by t (range_with_len d n) ≤ most_t)
     → (first : ℕ) → (a : ℕ) × (first ≤ a) × (a < first + n) × (s a ≡ false) × ((k : ℕ) → k < span → t (a + suc k) ≡ false)

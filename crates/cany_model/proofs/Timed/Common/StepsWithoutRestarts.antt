@@ -1,4 +1,5 @@
--- What is kept along a journal without restarts, where a step may use what is known of the state before it.
+-- What is kept along a journal without restarts, where a step may use what is known of the state
+-- before it.
 use Rattle.std.proofs.Common.{◌≡◌, ℕ, inl, inr, true, List, [], ◌∷◌, ◌++◌, refl, sym, ◌∙◌, subst, append-nil, append_assoc}
 use Rattle.std.proofs.lemmas.Bool.{cases_Bool}
 use Rattle.cany_base.specs.declared.step.Step.{Step}
@@ -31,7 +32,8 @@ any_step scenario none P s o keeps p next = elim (cases_Bool (is_done (reply sce
   | inr refused ↦ subst P (sym (step_refused scenario s next refused)) p
 ]
 
--- what holds after a front of the journal, and is kept by the steps from each later one, holds after it
+-- what holds after a front of the journal, and is kept by the steps from each later one, holds
+-- after it
 pub from_front : (scenario : ScenarioParts) → scenario.restarts ≡ [] → (P : RunState → Type 0) (journal : List Step)
     → ((front rest : List Step) → journal ≡ front ++ rest → KeepsFrom scenario P (run scenario front))
     → (front rest : List Step) → journal ≡ front ++ rest → P (run scenario front) → P (run scenario journal)

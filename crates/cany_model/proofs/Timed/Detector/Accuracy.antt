@@ -1,5 +1,5 @@
--- The failure detector is accurate: a running node has failed at no correct node. In a scenario without restarts, where the vectors that are
--- installed are one and there are quiet slots.
+-- The failure detector is accurate: a running node has failed at no correct node. In a scenario
+-- without restarts, where the vectors that are installed are one and there are quiet slots.
 use Rattle.std.proofs.Common.{◌≡◌, ℕ, suc, ◌<◌, ◌≤◌, ◌&&◌, ◌||◌, ◌==◌, not, inl, inr, Bool, true, false, List, [], ◌∷◌, ◌++◌, length, map, filter, drop, Option, Some, None, refl, ap, sym, ◌∙◌, subst, arith, add-one}
 use Rattle.std.specs.List.{AllByRecursion, range_with_len}
 use Rattle.std.proofs.lemmas.Bool.{and_parts, both_ways, cond_both, eqb-true, false_from_ne_true, or_cases, or_from}

@@ -1,4 +1,5 @@
--- What the failure detector and the membership promise, of every run within the fault hypothesis of a legal scenario without restart entries.
+-- What the failure detector and the membership promise, of every run within the fault hypothesis of
+-- a legal scenario without restart entries.
 use Rattle.std.specs.Prelude.{◌≡◌, ℕ, ◌<◌, ◌++◌, List, [], Some}
 use Rattle.std.proofs.Common.{sym, subst}
 use Rattle.cany_base.specs.declared.step.Step.{Step}

@@ -1,5 +1,6 @@
--- How long a member can go without being heard: each running node that has it in its view has heard it within the life interval, the lag and the
--- bound. In a scenario without restarts, where the vectors that are installed are one and there are quiet slots.
+-- How long a member can go without being heard: each running node that has it in its view has heard
+-- it within the life interval, the lag and the bound. In a scenario without restarts, where the
+-- vectors that are installed are one and there are quiet slots.
 use Rattle.std.proofs.Common.{◌≡◌, ◌≢◌, ℕ, ◌+◌, ◌-◌, ◌<◌, ◌≤◌, ◌⊎◌, inl, inr, true, false, List, [], ◌∷◌, ◌++◌, length, map, drop, take, None, refl, ap, sym, ◌∙◌, subst, arith, append_assoc, length-append, length-drop}
 use Rattle.std.specs.List.{AllByRecursion}
 use Rattle.std.proofs.lemmas.Bool.{both_ways, cases_Bool, cases_eq, cases_lt}
@@ -41,7 +42,8 @@ use Rattle.cany_model.proofs.Timed.Common.KnowledgeAges.{IsLifeOf, IsOwnLife, fu
 
 -- ---- a later state
 
--- a node that runs in the later state ran in the earlier one, and no node has read fewer slots in it
+-- a node that runs in the later state ran in the earlier one, and no node has read fewer slots in
+-- it
 pub record IsLater (base s : RunState) : Type 0 where
   pub ran : (i : ℕ) → runs (node_at s.nodes i) ≡ true → runs (node_at base.nodes i) ≡ true
   pub read : (i : ℕ) → i < length base.nodes → reads base i ≤ reads s i
@@ -141,7 +143,8 @@ shown_since_view scenario j r few (note ∷ newer) older out there = elim (cases
 ]
 
 module _ (scenario : ScenarioParts) (r j : ℕ) (other : r ≢ j) (few_r : r < most_nodes) (few_j : j < most_nodes) where
-  -- of slots in which no frame was lost in silence, that node j heard and in which nodes showed their own life alone
+  -- of slots in which no frame was lost in silence, that node j heard and in which nodes showed
+  -- their own life alone
   record Plain (trace : List SlotNote) : Type 0 where
     pub silent : AllByRecursion (λ note. is_silent_slot note ≡ false) trace
     pub heard : AllByRecursion (Heard j) trace
@@ -158,7 +161,8 @@ module _ (scenario : ScenarioParts) (r j : ℕ) (other : r ≢ j) (few_r : r < m
       let rest = shown_since n trace (record { silent = plain.silent.1; heard = plain.heard.1; own = plain.own.1 }) before in
       omega (arith, rest, shown_later scenario j r (note ∷ []) trace)
 
-  -- the life that it has heard is as new as what the node knows of its own, where they have had one view
+  -- the life that it has heard is as new as what the node knows of its own, where they have had one
+  -- view
   shown_kept : (base : List SlotNote)
       → ((newer older : List SlotNote) → base ≡ newer ++ older → (full scenario r older).members ≡ (full scenario j older).members)
       → (newer older : List SlotNote) → base ≡ newer ++ older → Plain older → (full scenario r older).last ≤ (full scenario j older).shown r
@@ -195,8 +199,9 @@ module _ (scenario : ScenarioParts) (r j : ℕ) (other : r ≢ j) (few_r : r < m
   plain_rest [] older plain = plain
   plain_rest (note ∷ newer) older plain = plain_rest newer older (record { silent = plain.silent.1; heard = plain.heard.1; own = plain.own.1 })
 
-  -- In a quiet state node r has read all but so many of these slots, and node j has read all, and more: where node r is a member, it has read
-  -- its last life in time, or has shown it since; where it is none, it comes into the view of node j since.
+  -- In a quiet state node r has read all but so many of these slots, and node j has read all, and
+  -- more: where node r is a member, it has read its last life in time, or has shown it since; where
+  -- it is none, it comes into the view of node j since.
   gap_at : (before trace : List SlotNote) (unread : ℕ) → unread ≤ scenario.params.lag
       → ((newer older : List SlotNote) → drop unread trace ≡ newer ++ older → (full scenario r older).members ≡ (full scenario j older).members)
       → Plain trace

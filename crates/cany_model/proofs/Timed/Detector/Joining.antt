@@ -1,5 +1,6 @@
--- A node whose JOIN was carried Clean comes into the vector of the cycle that starts next, or stood in that of the cycle before. Of scenarios
--- without restart entries, where the vectors that nodes install are one.
+-- A node whose JOIN was carried Clean comes into the vector of the cycle that starts next, or stood
+-- in that of the cycle before. Of scenarios without restart entries, where the vectors that nodes
+-- install are one.
 use Rattle.std.proofs.Common.{◌≡◌, ◌≢◌, ℕ, suc, ◌+◌, ◌-◌, ◌*◌, ◌<◌, ◌≤◌, ◌⊎◌, ◌==◌, ◌&&◌, ◌||◌, not, if◌then◌else◌, inl, inr, true, false, List, [], ◌∷◌, ◌++◌, length, map, drop, take, Option, Some, None, refl, ap, sym, ◌∙◌, subst, arith, append_assoc, length-append}
 use Rattle.std.specs.List.{AllByRecursion}
 use Rattle.std.proofs.Math.Nat.{mul-le-mul_right}

@@ -1,4 +1,5 @@
--- A node that has asked for no leave is never among those that leave; so a member that has not failed starts each cycle.
+-- A node that has asked for no leave is never among those that leave; so a member that has not
+-- failed starts each cycle.
 use Rattle.std.proofs.Common.{◌≡◌, ℕ, ◌<◌, ◌≤◌, ◌++◌, nat_lt, filter, ◌⊎◌, ◌&&◌, ◌||◌, ◌==◌, not, inl, inr, if◌then◌else◌, Bool, true, false, List, [], ◌∷◌, length, map, Option, Some, None, refl, ap, sym, ◌∙◌, subst, arith}
 use Rattle.std.specs.List.{AllByRecursion, flat_map, list_any}
 use Rattle.std.proofs.lemmas.Bool.{and_from, and_parts, both_ways, cases_Bool, cases_eq, cond-false, cond_both, eq-eqb, eqb-true, false_from_ne_true, ltb-true, or_right, not_from_false, or_cases, or_left}
@@ -334,7 +335,8 @@ module _ (p : Parameters) (i r slot : ℕ) (e : NoticeKind) (st : Knowledge) (fe
         ∙ and_from (has now.members r) (not (has now.failed r)) a (not_from_false (has now.failed r) b))
         (not_from_false (has now.leavers r) c))
 
-    -- a member that has not failed and does not leave stands in what a node starts a cycle with, in a slot at which no cycle ends
+    -- a member that has not failed and does not leave stands in what a node starts a cycle with, in
+    -- a slot at which no cycle ends
     pub start_stays : (v : Nodes) → start_in p i slot e st ≡ Some v → has v r ≡ true
     start_stays v is =
         cond_both (is_start p slot) (start_of i (after_installing p i slot e st)) None (λ o. o ≡ Some v → has v r ≡ true)

@@ -1,4 +1,5 @@
--- In a scenario without restart entries each node is the incarnation of the opening: it sees the whole trace, and follows the scenario itself.
+-- In a scenario without restart entries each node is the incarnation of the opening: it sees the
+-- whole trace, and follows the scenario itself.
 use Rattle.std.proofs.Common.{◌≡◌, ℕ, ◌+◌, ◌-◌, ◌≤◌, ◌&&◌, inl, inr, Bool, true, false, not, if◌then◌else◌, List, [], ◌∷◌, length, map, drop, refl, ap, sym, ◌∙◌, subst, arith}
 use Rattle.std.proofs.lemmas.Bool.{cases_lt, false≢true}
 use Rattle.std.proofs.lemmas.List.{length-replicate}

@@ -1,5 +1,5 @@
--- A member that stopped is in no view of a cycle that starts more than the silence after its stop. Of scenarios without restart entries, where the
--- vectors that nodes install are one.
+-- A member that stopped is in no view of a cycle that starts more than the silence after its stop.
+-- Of scenarios without restart entries, where the vectors that nodes install are one.
 use Rattle.std.proofs.Common.{◌≡◌, ℕ, ◌+◌, ◌-◌, ◌*◌, ◌<◌, ◌≤◌, ◌⊎◌, ◌==◌, ◌&&◌, ◌||◌, not, if◌then◌else◌, inl, inr, true, false, List, [], ◌∷◌, ◌++◌, length, map, take, Option, Some, None, Contains, refl, ap, sym, ◌∙◌, subst, arith, append_assoc, length-append, length-drop}
 use Rattle.std.specs.List.{AllByRecursion}
 use Rattle.std.proofs.lemmas.Bool.{and_parts, both_ways, cases_lt, cond_both, eqb-true, false_from_ne_true, not-true, or_cases}

@@ -1,5 +1,6 @@
--- A member shows life in time: within the life interval of its last life, or its life sign waits, or was sent. So in a quiet state its last
--- life lies no further back than the life interval and the lag. And only the node itself shows its life.
+-- A member shows life in time: within the life interval of its last life, or its life sign waits,
+-- or was sent. So in a quiet state its last life lies no further back than the life interval and
+-- the lag. And only the node itself shows its life.
 use Rattle.std.proofs.Common.{◌≡◌, ℕ, zero, suc, ◌+◌, ◌<◌, ◌≤◌, ◌⊎◌, ◌||◌, ◌==◌, inl, inr, true, false, List, [], ◌∷◌, length, map, drop, Some, refl, ap, sym, ◌∙◌, subst, arith, length-drop}
 use Rattle.std.specs.List.{AllByRecursion, list_any}
 use Rattle.std.proofs.lemmas.Bool.{and_from, both_ways, cases_Bool, cases_eq, cond_both, eq-eqb, false≢true, or_cases, or_left, or_parts, or_right}
@@ -227,8 +228,8 @@ since_read i n (suc unread) (note ∷ trace) e past read at (inr before) = elim 
 
 -- ---- what is kept
 
--- a running node has read so much within the life interval of its last life, or its life sign waits, or it has shown its life in a slot that
--- it has not read, or it is no member
+-- a running node has read so much within the life interval of its last life, or its life sign
+-- waits, or it has shown its life in a slot that it has not read, or it is no member
 abbrev pub ShowsInTime : ScenarioParts → ℕ → List SlotNote → List NoticeKind → List FrameParts → Type 0
 ShowsInTime scenario i trace past waiting =
     (length past ≤ (knowledge_of scenario i past).last + scenario.params.life)
@@ -338,7 +339,8 @@ no_sign (f ∷ w) none x els h = elim (or_cases (is_of x f) (waits x w) h) [
   | inr there ↦ no_sign w (or_parts (is_top f.class) (list_any (λ g. is_top g.class) w) none).1 x els there
 ]
 
--- there a member that has read all but the lag slots has read its last life within the life interval and the lag, or has shown it since
+-- there a member that has read all but the lag slots has read its last life within the life
+-- interval and the lag, or has shown it since
 pub quiet_shows : (scenario : ScenarioParts) (i : ℕ) (trace : List SlotNote) (node : NodeState)
     → ShowsInTime scenario i trace (past_of i trace node) node.waiting → list_any (λ f. is_top f.class) node.waiting ≡ false
     → node.unread ≤ scenario.params.lag → has (knowledge_of scenario i (past_of i trace node)).members i ≡ true

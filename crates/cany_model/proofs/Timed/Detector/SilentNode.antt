@@ -1,5 +1,5 @@
--- What a node knows of one that sends nothing more: it fails, or leaves the view, or its life lies back; and once it has been silent for too long
--- the node starts no cycle with it.
+-- What a node knows of one that sends nothing more: it fails, or leaves the view, or its life lies
+-- back; and once it has been silent for too long the node starts no cycle with it.
 use Rattle.std.proofs.Common.{◌≡◌, ℕ, ◌+◌, ◌-◌, ◌*◌, ◌<◌, ◌≤◌, ◌⊎◌, ◌==◌, ◌&&◌, ◌||◌, not, inl, inr, if◌then◌else◌, Bool, true, false, List, [], ◌∷◌, ◌++◌, length, map, filter, Option, Some, None, nat_le, refl, ap, sym, ◌∙◌, subst, arith, div-mul-le_self}
 use Rattle.std.specs.List.{AllByRecursion, range_with_len}
 use Rattle.std.proofs.Math.Nat.{mul-le-mul_right}

@@ -1,5 +1,5 @@
--- A running member that has asked for no leave stands in each view that follows. In a scenario without restarts, where the vectors that are
--- installed are one and there are quiet slots.
+-- A running member that has asked for no leave stands in each view that follows. In a scenario
+-- without restarts, where the vectors that are installed are one and there are quiet slots.
 use Rattle.std.proofs.Common.{◌≡◌, ℕ, zero, suc, ◌+◌, ◌-◌, ◌*◌, ◌<◌, ◌≤◌, inl, inr, Bool, true, false, List, [], ◌∷◌, ◌++◌, length, map, drop, take, Option, Some, None, Contains, refl, ap, sym, ◌∙◌, subst, arith, append_assoc, length-append, length-drop, suc-mul}
 use Rattle.std.specs.List.{AllByRecursion}
 use Rattle.std.proofs.Math.Nat.{mul-le-mul_right}
@@ -125,7 +125,8 @@ end_says scenario s o all r j newer note older split read installs = by_end (is_
         let d : ℕ = cycle_of scenario.params (length older) in
         subst (Says r true) (read_installed scenario s o all j d newer note older split read at.1) (installs d at.0 at.1)
 
--- A node that is a member after some slot is one at the start of each cycle that ends later, where it has read the end of the one before.
+-- A node that is a member after some slot is one at the start of each cycle that ends later, where
+-- it has read the end of the one before.
 member_at : (scenario : ScenarioParts) (s : RunState) → IsOrderly scenario.params.nodes s → AllOriginal s → (r k : ℕ) → IsCycle scenario.params k
     → (newer base : List SlotNote) → s.trace ≡ newer ++ base → has (full scenario r base).members r ≡ true
     → length base ≤ k * scenario.params.cycle + scenario.params.bound → (k - 1) * scenario.params.cycle + scenario.params.bound < reads s r
@@ -309,7 +310,8 @@ module _ (scenario : ScenarioParts) (none : scenario.restarts ≡ []) (fits : sc
 
 -- ---- the views of a log
 
--- the view that a node enters in a log is the one that it has after some notice, at the end of the cycle of that number
+-- the view that a node enters in a log is the one that it has after some notice, at the end of the
+-- cycle of that number
 record WasEntered (scenario : ScenarioParts) (s : RunState) (i number : ℕ) (members : Nodes) : Type 0 where
   front : List SlotNote
   old : List SlotNote
@@ -345,7 +347,8 @@ was_entered scenario s all i slot number members logged =
       view = ap (λ p. (knowledge_of scenario i p).members) (sym notices) ∙ is.members;
     }
 
--- a running member that has asked for no leave stands in each view of a correct node of a cycle that ends later
+-- a running member that has asked for no leave stands in each view of a correct node of a cycle
+-- that ends later
 pub stays : (scenario : ScenarioParts) → scenario.restarts ≡ [] → scenario.params.nodes ≤ (layout scenario.params.format).nodes
     → MeetsFormulas scenario.params → AllBelow scenario.params.nodes scenario.members → (journal : List Step)
     → IsWithin scenario.params (run scenario journal).trace

@@ -1,4 +1,5 @@
--- A node that stopped sends nothing more, and a node that runs has run since the first slot. Of scenarios without restart entries.
+-- A node that stopped sends nothing more, and a node that runs has run since the first slot. Of
+-- scenarios without restart entries.
 use Rattle.std.proofs.Common.{◌≡◌, ℕ, ◌<◌, ◌≤◌, ◌⊎◌, inl, inr, true, false, if◌then◌else◌, List, [], ◌∷◌, ◌++◌, length, Some, None, Contains, refl, ap, sym, ◌∙◌, subst, arith}
 use Rattle.std.specs.List.{AllByRecursion}
 use Rattle.std.proofs.lemmas.Bool.{both_ways, cases_Bool, cases_eq, cond_both}

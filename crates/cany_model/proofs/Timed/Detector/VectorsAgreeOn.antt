@@ -1,5 +1,5 @@
--- Where the vectors with which members start a cycle agree on a node, all vectors of the cycle do, and so does what is installed at its end. Of
--- scenarios without restart entries.
+-- Where the vectors with which members start a cycle agree on a node, all vectors of the cycle do,
+-- and so does what is installed at its end. Of scenarios without restart entries.
 use Rattle.std.proofs.Common.{◌≡◌, ℕ, zero, suc, ◌+◌, ◌*◌, ◌<◌, ◌≤◌, ◌==◌, ◌&&◌, ◌++◌, inl, inr, Bool, true, false, if◌then◌else◌, List, [], ◌∷◌, length, Option, Some, None, Contains, nat_lt, slice_index_or, unwrap_or, refl, ap, sym, ◌∙◌, subst, arith}
 use Rattle.std.specs.List.{AllByRecursion}
 use Rattle.std.proofs.lemmas.Bool.{and_from, and_right, both_ways, cases_eq, cond-true, cond_both, eq-eqb, lt-ltb}

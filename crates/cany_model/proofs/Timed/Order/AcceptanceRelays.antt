@@ -1,5 +1,6 @@
--- A node that read a copy of a frame that accepts a message in time, or at the origin its own transmission of the data frame, waits with
--- the frame that accepts, or has sent it, or has read more than omit copies, or has read so far that the message is closed.
+-- A node that read a copy of a frame that accepts a message in time, or at the origin its own
+-- transmission of the data frame, waits with the frame that accepts, or has sent it, or has read
+-- more than omit copies, or has read so far that the message is closed.
 use Rattle.std.proofs.Common.{◌≡◌, ℕ, zero, suc, ◌+◌, ◌<◌, ◌≤◌, ◌⊎◌, inl, inr, true, false, List, ◌∷◌, ap, arith, subst}
 use Rattle.std.proofs.lemmas.Bool.{both_ways, cases_eq, cases_lt, or_left, or_right}
 use Rattle.cany_base.specs.declared.message.MsgKey.{MsgKey}
@@ -27,13 +28,15 @@ use Rattle.cany_model.proofs.Timed.Order.TotEffects.{TooMany, WaitsUnless, copie
 
 -- ---- what is kept of a node
 
--- node i waits with the frame that accepts, or has sent it, or has read more than omit copies, or the closing of the message
+-- node i waits with the frame that accepts, or has sent it, or has read more than omit copies, or
+-- the closing of the message
 abbrev pub Answer : Parameters → ℕ → List SlotNote → ℕ → List FrameParts → MsgKey → ℕ → Type 0
 Answer p i T u W m q =
     (waits (accept_of_key m) W ≡ true)
     ⊎ (((c : ℕ) × Sends i T c (accept_of_key m)) ⊎ ((p.omit < copies (accept_of_key m) (past i T u)) ⊎ (u + p.bound ≤ q)))
 
--- Of a running node that waits with W, has not read the u newest slots, and whose incarnation sees the trace T.
+-- Of a running node that waits with W, has not read the u newest slots, and whose incarnation sees
+-- the trace T.
 pub record Answers (p : Parameters) (i : ℕ) (T : List SlotNote) (u : ℕ) (W : List FrameParts) : Type 0 where
   pub to_copy : (m : MsgKey) (c q : ℕ) → u ≤ c → Gets i T c (accept_of_key m) → Done T q m → q ≤ c + p.bound → Answer p i T u W m q
   pub to_sent : (m : MsgKey) (q : ℕ) → m.origin ≡ i → u ≤ q → Sends i T q (tot_of_key m) → Done T q m → Answer p i T u W m q

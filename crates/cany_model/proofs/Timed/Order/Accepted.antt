@@ -1,4 +1,5 @@
--- What an incarnation sees of a message that it accepts: its data frame was carried Clean at an age that was read, and what is accepted stays so.
+-- What an incarnation sees of a message that it accepts: its data frame was carried Clean at an age
+-- that was read, and what is accepted stays so.
 use Rattle.std.proofs.Common.{◌≡◌, ℕ, zero, suc, ◌-◌, ◌<◌, ◌≤◌, ◌||◌, ◌&&◌, ◌==◌, inl, inr, not, Bool, true, false, List, [], ◌∷◌, length, map, get_or, refl, ap, sym, ◌∙◌, arith}
 use Rattle.std.specs.List.{list_any, range_with_len}
 use Rattle.std.proofs.lemmas.Bool.{and_from, and_parts, both_ways, cases_Bool, cases_lt, false_from_ne_true, false≢true, not_from_false, or_cases, or_left, or_right}

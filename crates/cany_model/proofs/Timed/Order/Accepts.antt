@@ -1,5 +1,5 @@
--- Acceptance: a message that a running node has accepted, each running node accepts that sees its data frame, at every reading that
--- reaches as far as the bound after that frame.
+-- Acceptance: a message that a running node has accepted, each running node accepts that sees its
+-- data frame, at every reading that reaches as far as the bound after that frame.
 use Rattle.std.proofs.Common.{◌≡◌, ℕ, zero, suc, ◌+◌, ◌-◌, ◌<◌, ◌≤◌, ◌⊎◌, ◌&&◌, ◌==◌, ◌++◌, inl, inr, Bool, true, false, List, [], ◌∷◌, length, drop, map, refl, ap, sym, ◌∙◌, subst, arith, length-append, drop-drop}
 use Rattle.std.specs.List.{list_any, range_with_len}
 use Rattle.std.proofs.lemmas.Bool.{and_from, and_parts, both_ways, cases_Bool, cases_lt, eq-eqb, eqb-true, false≢true, or_cases, or_left, or_right}
@@ -50,8 +50,8 @@ use Rattle.cany_model.proofs.Timed.Order.TotRun.{past_next, tot_kept}
 use Rattle.cany_model.proofs.Timed.Order.TotSlots.{carries-true, got_carried, holds_carried, sends_clean}
 use Rattle.cany_model.proofs.Timed.Order.TotEffects.{NoAsk, copies_read, now_cases, own_read}
 
--- What a running node has accepted by now, node j had accepted by each reading that reaches the closing, if its incarnation sees the
--- Clean slot of the data frame, which has the age q.
+-- What a running node has accepted by now, node j had accepted by each reading that reaches the
+-- closing, if its incarnation sees the Clean slot of the data frame, which has the age q.
 abbrev pub AcceptedAt : ScenarioParts → RunState → Type 0
 AcceptedAt scenario s =
     (key : MsgKey) (j q v : ℕ) → runs (node_at s.nodes j) ≡ true → Done (seen (node_at s.nodes j).present s.trace) q key
@@ -99,8 +99,9 @@ plain_older (note ∷ newer) older plain = plain_older newer older plain.1
 
 -- ---- in a quiet state
 
--- Of a running node that waits with no frame that accepts the message and asks for none at what it has not read: if it got a copy of it, or
--- is the origin and sent the data frame, the frame that accepts was carried Clean.
+-- Of a running node that waits with no frame that accepts the message and asks for none at what it
+-- has not read: if it got a copy of it, or is the origin and sent the data frame, the frame that
+-- accepts was carried Clean.
 module _ (scenario : ScenarioParts) (i : ℕ) (T : List SlotNote) (u : ℕ) (W : List FrameParts) (m : MsgKey) (short : u ≤ length T)
     (later : AcceptsLater T) (hears : Hears i T) (a : Answers scenario.params i T u W)
     (own_clean : (c : ℕ) → Sends i T c (accept_of_key m) → (r : ℕ) × Clean T r (accept_of_key m))
@@ -170,8 +171,8 @@ module _ (scenario : ScenarioParts) (i : ℕ) (T : List SlotNote) (u : ℕ) (W :
 
 -- ---- around a quiet state
 
--- What is known of a state of a run, and of an earlier state of it that was quiet: the data frame of the message was carried Clean before
--- the quiet one, in which the message is still open.
+-- What is known of a state of a run, and of an earlier state of it that was quiet: the data frame
+-- of the message was carried Clean before the quiet one, in which the message is still open.
 pub record AtQuiet (scenario : ScenarioParts) (s base : RunState) (m : MsgKey) (q : ℕ) : Type 0 where
   pub orderly : IsOrderly scenario.params.nodes s
   pub plain : NoSilent s.trace
@@ -474,8 +475,8 @@ to_closing s i c bound q at read =
     let left : u + n ≡ q - bound = omega (arith, at, read) in
     ap (drop n) (history-is i s) ∙ drop-map (given i) n (drop u T) ∙ ap (map (given i)) (drop-drop n u T ∙ ap (λ k. drop k T) left)
 
--- Of a message whose data frame was carried Clean all nodes that have read its closing accepted it in time, or none, and no running node
--- accepts it otherwise.
+-- Of a message whose data frame was carried Clean all nodes that have read its closing accepted it
+-- in time, or none, and no running node accepts it otherwise.
 pub acceptance : (scenario : ScenarioParts) (journal : List Step) → scenario.params.nodes ≤ most_nodes
     → IsWithin scenario.params (run scenario journal).trace → HasQuietSlots scenario journal → (key : MsgKey) (c : ℕ)
     → WasCarriedClean (run scenario journal).trace key c → IsAcceptedByAllOrNone scenario (run scenario journal) key c

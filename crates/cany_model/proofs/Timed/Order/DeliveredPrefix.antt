@@ -1,4 +1,5 @@
--- What a node has delivered by TOTCAN is a front of the order, where it accepts in time what passes the test of the order, and nothing else.
+-- What a node has delivered by TOTCAN is a front of the order, where it accepts in time what passes
+-- the test of the order, and nothing else.
 use Rattle.std.proofs.Common.{◌≡◌, ℕ, zero, suc, ◌+◌, ◌-◌, ◌<◌, ◌≤◌, ◌⊎◌, ◌&&◌, ◌++◌, inl, inr, not, Bool, true, false, List, [], ◌∷◌, length, drop, take, Option, Some, None, nat_lt, refl, ap, sym, ◌∙◌, subst, arith, append-nil}
 use Rattle.std.specs.List.{list_any}
 use Rattle.std.proofs.lemmas.Bool.{and_from, and_left, and_parts, and_right, both_ways, cases_Bool, cases_eq, cases_lt, lt-ltb, not_from_false, not_from_true}
@@ -43,7 +44,8 @@ held_frame m e h none = let w = holds-place m e h in let some : None ≡ Some w.
 pub record Reads (p : Parameters) (T : List SlotNote) (i v : ℕ) (test : MsgKey → Bool) : Type 0 where
   -- each frame that was carried Clean it got or sent
   pub heard : Hears i T
-  -- the data frame of a message that it has accepted was carried Clean at an age that it has read, and the message passes the test
+  -- the data frame of a message that it has accepted was carried Clean at an age that it has read,
+  -- and the message passes the test
   pub accepted_done : (m : MsgKey) → is_accepted p.bound i m (past i T v) ≡ true → (q : ℕ) × (v ≤ q) × Done T q m
   pub accepted_test : (m : MsgKey) → is_accepted p.bound i m (past i T v) ≡ true → test m ≡ true
   -- what passes it has accepted once it has read the closing
@@ -209,7 +211,8 @@ module _ (p : Parameters) (T : List SlotNote) (i v : ℕ) (test : MsgKey → Boo
     clear = λ _. refl;
   }
 
-  -- from the oldest slot on: what is done up to an age is the order up to some age, and up to just this one where nothing holds later ones back
+  -- from the oldest slot on: what is done up to an age is the order up to some age, and up to just
+  -- this one where nothing holds later ones back
   fronts : (n k r : ℕ) → r + n ≡ length T → r ≡ v + k → Front k r
   fronts zero k r size at = at_end k r (omega (arith, size))
   fronts (suc n) k r size at =

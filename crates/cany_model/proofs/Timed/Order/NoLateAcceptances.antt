@@ -1,5 +1,5 @@
--- From a quiet state on that has the Clean slot of a data frame behind it, no frame that accepts the message waits or is carried, and a
--- node that begins later sees nothing of the message.
+-- From a quiet state on that has the Clean slot of a data frame behind it, no frame that accepts
+-- the message waits or is carried, and a node that begins later sees nothing of the message.
 use Rattle.std.proofs.Common.{◌≡◌, ℕ, zero, suc, ◌+◌, ◌-◌, ◌<◌, ◌≤◌, ◌⊎◌, ◌||◌, ◌++◌, inl, inr, true, false, List, [], ◌∷◌, length, refl, ap, sym, ◌∙◌, subst, arith, length-append}
 use Rattle.std.specs.List.{list_any}
 use Rattle.std.proofs.lemmas.Bool.{both_ways, cases_Bool, cases_eq, cases_lt, false≢true, or_cases, or_left, or_right}
@@ -82,7 +82,8 @@ asks_accept m (Enter entry) none = absurd none
 abbrev pub AsksFor : MsgKey → ℕ → ScenarioParts → List NoticeKind → Type 0
 AsksFor m i scenario past = Among (Asks (accept_of_key m)) (turn_effects scenario i past)
 
--- a running node waits with no frame that accepts, and asks for none at a notice that it has not read
+-- a running node waits with no frame that accepts, and asks for none at a notice that it has not
+-- read
 pub quiet_waits : (scenario : ScenarioParts) (s : RunState) → IsQuiet scenario s → (i : ℕ) → runs (node_at s.nodes i) ≡ true → (m : MsgKey)
     → waits (accept_of_key m) (node_at s.nodes i).waiting ≡ true → ⊥
 quiet_waits scenario s quiet i running m h =

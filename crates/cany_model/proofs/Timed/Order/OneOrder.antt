@@ -1,4 +1,5 @@
--- One order: what a correct node has delivered by TOTCAN begins the order of the slots in which it takes part.
+-- One order: what a correct node has delivered by TOTCAN begins the order of the slots in which it
+-- takes part.
 use Rattle.std.proofs.Common.{◌≡◌, ℕ, suc, ◌+◌, ◌-◌, ◌<◌, ◌≤◌, ◌⊎◌, ◌&&◌, inl, inr, not, Bool, true, false, List, [], ◌∷◌, length, map, drop, Option, Some, None, nat_lt, refl, ap, sym, ◌∙◌, subst, arith, drop-drop, ◌++◌}
 use Rattle.std.proofs.lemmas.Bool.{and_from, and_left, and_right, both_ways, cases_Bool, cases_lt, cond_both, le-ltb, not_from_false}
 use Rattle.std.proofs.lemmas.List.{drop-map, map-append}
@@ -140,7 +141,8 @@ delivered_done p i key e before h =
       | inr fresh ↦ Among-append_right (IsNamed key) early new fresh
     ]
 
--- a message of the order, whose data frame a running node saw carried Clean and whose closing it has read, the node has delivered
+-- a message of the order, whose data frame a running node saw carried Clean and whose closing it
+-- has read, the node has delivered
 pub has_delivered : (scenario : ScenarioParts) (s : RunState) → Ground scenario s → (m : MsgKey) (q i : ℕ) → runs (node_at s.nodes i) ≡ true
     → Done (seen_by s i) q m → is_accepted_by_some scenario s m ≡ true → (node_at s.nodes i).unread + scenario.params.bound ≤ q
     → Among (IsNamed m) (delivered scenario.params i (read_by s i))

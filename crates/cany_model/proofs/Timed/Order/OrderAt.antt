@@ -1,4 +1,5 @@
--- The order of TOTCAN by the ages of the slots: the data frames that it has, and the parts between two ages.
+-- The order of TOTCAN by the ages of the slots: the data frames that it has, and the parts between
+-- two ages.
 use Rattle.std.proofs.Common.{◌≡◌, ℕ, zero, suc, ◌+◌, ◌-◌, ◌<◌, ◌≤◌, ◌&&◌, ◌++◌, inl, inr, not, nat_le, Bool, true, false, if◌then◌else◌, List, [], ◌∷◌, length, map, drop, Option, Some, None, refl, ap, sym, ◌∙◌, subst, arith, append_assoc, append-nil}
 use Rattle.std.specs.List.{AllByRecursion}
 use Rattle.std.proofs.lemmas.Bool.{and_from, and_parts, both_ways, cases_Bool, cases_eq, cases_lt, cond_both, le-leb, lt-leb, not_from_false, not_from_true, or_left, or_right}
@@ -146,7 +147,8 @@ one_done T first m q r a b = elim (cases_lt q r) [
 abbrev IsDoneIn : List SlotNote → ℕ → ℕ → FrameParts → Type 0
 IsDoneIn T low high f = (r : ℕ) × (low ≤ r) × (r < high) × Done T r (message_in f)
 
--- the order up to the age b is that up to the older age a, and then a part whose frames were carried between
+-- the order up to the age b is that up to the older age a, and then a part whose frames were
+-- carried between
 pub record Segment (T : List SlotNote) (test : MsgKey → Bool) (b a : ℕ) : Type 0 where
   pub part : List FrameParts
   pub is : frames_by test (drop b T) ≡ frames_by test (drop a T) ++ part

@@ -1,4 +1,5 @@
--- What a node's log delivers by TOTCAN are the messages of the data frames that it has delivered, in that order.
+-- What a node's log delivers by TOTCAN are the messages of the data frames that it has delivered,
+-- in that order.
 use Rattle.std.proofs.Common.{◌≡◌, ℕ, ◌≤◌, inl, inr, true, false, List, [], ◌∷◌, ◌++◌, map, length, Contains, refl, ap, sym, ◌∙◌, subst, append-nil}
 use Rattle.std.specs.List.{AllByRecursion, flat_map}
 use Rattle.std.proofs.lemmas.Bool.{cond_both, false≢true}

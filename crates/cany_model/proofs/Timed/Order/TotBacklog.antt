@@ -1,4 +1,5 @@
--- The backlog of a node by places: each message has one place, and when one is asked for, those before it were sent long before.
+-- The backlog of a node by places: each message has one place, and when one is asked for, those
+-- before it were sent long before.
 use Rattle.std.specs.Prelude.{slice_index_or}
 use Rattle.std.proofs.Common.{◌≡◌, ℕ, zero, suc, ◌+◌, ◌<◌, ◌≤◌, ◌==◌, ◌&&◌, inl, inr, Bool, true, false, not, List, [], ◌∷◌, ◌++◌, filter, length, map, take, drop, Option, Some, None, refl, ap, sym, ◌∙◌, subst, arith, count_by, drop-drop, length-append, nat_lt}
 use Rattle.std.specs.List.{AllByRecursion, last_or, list_all, list_any}
@@ -229,7 +230,8 @@ next_free p past earlier [] k h = absurd (cc)
 next_free p past earlier (m ∷ later) k h =
     cond_both (is_free p earlier past) (Some m) None (λ o. o ≡ Some k → is_free p earlier past ≡ true) (λ free _. free) (λ _ none. absurd (cc)) h
 
--- the message at this place is asked for next, where those before the last of the earlier ones were sent long ago
+-- the message at this place is asked for next, where those before the last of the earlier ones were
+-- sent long ago
 record IsFreeNext (p : Parameters) (past : List NoticeKind) (messages : List Message) (n : ℕ) (k : Message) : Type 0 where
   there : n < length messages
   is : at_place messages n ≡ k
@@ -297,7 +299,8 @@ are_long scenario i (e ∷ before) j below = by_next (are_long scenario i before
         let more : asked scenario i (e ∷ before) ≡ asked scenario i before + 1 = ap (one_more (asked scenario i before)) is in
         long_now scenario i e before are k is j (omega (arith, below, more))
 
--- The message that is asked for in this turn: its place is the next one, and each before it was sent at least bound + lag slots before.
+-- The message that is asked for in this turn: its place is the next one, and each before it was
+-- sent at least bound + lag slots before.
 pub record IsNext (scenario : ScenarioParts) (i : ℕ) (e : NoticeKind) (before : List NoticeKind) (k : Message) : Type 0 where
   pub there : asked scenario i before < length (backlog scenario i (e ∷ before))
   pub is : at_place (backlog scenario i (e ∷ before)) (asked scenario i before) ≡ k

@@ -1,5 +1,5 @@
--- Few frames that accept messages, and few data frames of TOTCAN, in a window of bound + lag slots: two for each pair of an origin and a node
--- that accepts, and one of each origin.
+-- Few frames that accept messages, and few data frames of TOTCAN, in a window of bound + lag slots:
+-- two for each pair of an origin and a node that accepts, and one of each origin.
 use Rattle.std.proofs.Common.{◌≡◌, ℕ, ◌+◌, ◌*◌, ◌<◌, ◌≤◌, ◌⊎◌, ◌&&◌, ◌==◌, inl, inr, Bool, true, false, List, Some, count_by, drop, take, refl, ap, sym, ◌∙◌, subst, arith}
 use Rattle.std.proofs.lemmas.Bool.{and_from, and_parts, cases_order, eq-eqb, eqb-true, false≢true}
 use Rattle.std.proofs.lemmas.List.Elements.{recursion_from_All}
@@ -70,7 +70,8 @@ one_message T a m k x y =
     let same : c.what ≡ d.what = cc in
     tot_one m k (c.identity ∙ ap identity_of same ∙ sym d.identity)
 
--- three slots of a window, and for each one that comes before it by no more than the window: these cannot all lie further apart than that
+-- three slots of a window, and for each one that comes before it by no more than the window: these
+-- cannot all lie further apart than that
 spread : (w x y z a b c : ℕ) → x < a → a ≤ x + w → y < b → b ≤ y + w → z < c → c ≤ z + w → x < y → y < z → z < x + w
     → (a + w < b) ⊎ (b + w < a) → (b + w < c) ⊎ (c + w < b) → (a + w < c) ⊎ (c + w < a) → ⊥
 spread w x y z a b c xa ax yb by zc cz xy yz zx (inl p) (inl q) r = omega (arith, xa, ax, yb, by, zc, cz, xy, yz, zx, p, q)

@@ -1,5 +1,5 @@
--- What a turn does about the frames of a TOTCAN message: when it asks for its data frame, and when it asks for the frame that accepts it or
--- withdraws that.
+-- What a turn does about the frames of a TOTCAN message: when it asks for its data frame, and when
+-- it asks for the frame that accepts it or withdraws that.
 use Rattle.std.proofs.Common.{◌≡◌, ℕ, suc, ◌+◌, ◌<◌, ◌≤◌, ◌≢◌, ◌==◌, ◌&&◌, ◌||◌, ◌⊎◌, inl, inr, Bool, true, false, not, if◌then◌else◌, List, [], ◌∷◌, ◌++◌, map, length, count_by, slice_index_or, Option, Some, None, refl, ap, sym, ◌∙◌, subst, arith}
 use Rattle.std.specs.List.{list_any}
 use Rattle.std.proofs.lemmas.Bool.{and_cases, and_from, and_parts, both_ways, cases_Bool, cond_both, eq-eqb, eqb-false, eqb-true, false_from_ne_true, false≢true, leb-true, not-false, not-true, or_cases, or_left, or_right}
@@ -131,8 +131,8 @@ closing_last_effect bound m past = elim (closing_one bound m past (tot_in (slice
 
 -- ---- the notice
 
--- Why it is asked for: the origin has read its own transmission of the data frame, or the frame was got, in time, for the first time after
--- the place.
+-- Why it is asked for: the origin has read its own transmission of the data frame, or the frame was
+-- got, in time, for the first time after the place.
 abbrev pub AskCause : Parameters → ℕ → MsgKey → NoticeKind → List NoticeKind → Type 0
 AskCause p i m e before =
     ((is_sent (tot_of_key m) e ≡ true) × (m.origin ≡ i))

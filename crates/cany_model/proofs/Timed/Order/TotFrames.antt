@@ -1,5 +1,6 @@
--- The frames of TOTCAN in a run: all that accept a message are one frame, and each data frame is that of a message of its origin, which
--- comes no earlier than the message's scripted slot, and that is one of the incarnation that sends it.
+-- The frames of TOTCAN in a run: all that accept a message are one frame, and each data frame is
+-- that of a message of its origin, which comes no earlier than the message's scripted slot, and
+-- that is one of the incarnation that sends it.
 use Rattle.std.proofs.Common.{◌≡◌, ℕ, suc, ◌<◌, ◌≤◌, ◌||◌, inl, inr, true, false, List, [], ◌∷◌, length, refl, ap, sym, ◌∙◌, subst, arith}
 use Rattle.std.specs.List.{AllByRecursion}
 use Rattle.std.proofs.lemmas.Bool.{both_ways, false≢true}
@@ -133,7 +134,8 @@ sound_run scenario journal few = frames_alone scenario (SoundWaiting scenario) (
 
 -- ---- the data frames that an incarnation waits with
 
--- the message of the data frame is one that the incarnation sends: not of a slot before its first one
+-- the message of the data frame is one that the incarnation sends: not of a slot before its first
+-- one
 pub record IsOfIncarnation (scenario : ScenarioParts) (inc : Incarnation) (f : FrameParts) : Type 0 where
   pub message : Message
   pub stands : IsOneOf (messages_of scenario.sends) message
@@ -203,7 +205,8 @@ carried_has scenario s sound q x h =
           (q, there, get_or_default s.trace q (note_at s.trace q) no_note there) c.frame,
     )
 
--- a data frame that a restarted node waits with was not carried before the first slot of its incarnation
+-- a data frame that a restarted node waits with was not carried before the first slot of its
+-- incarnation
 pub data_late : (scenario : ScenarioParts) (s : RunState) → HasSoundFrames scenario s → EachRunning (HasLateFrames scenario) s → (i : ℕ)
     → runs (node_at s.nodes i) ≡ true → (m : MsgKey) (q : ℕ) → waits (tot_of_key m) (node_at s.nodes i).waiting ≡ true
     → Carried s.trace q (tot_of_key m)

@@ -1,5 +1,5 @@
--- What is kept of TOTCAN in every run without a Silent slot: of the trace, and of each running node by what its incarnation sees. Slots are
--- told by their ages, 0 for the newest.
+-- What is kept of TOTCAN in every run without a Silent slot: of the trace, and of each running node
+-- by what its incarnation sees. Slots are told by their ages, 0 for the newest.
 use Rattle.std.specs.Prelude.{◌≡◌, ℕ, ◌+◌, ◌<◌, ◌≤◌, ◌⊎◌, true, false, List, [], length, slice_index_or}
 use Rattle.std.specs.List.{AllByRecursion}
 use Rattle.cany_base.specs.declared.message.MsgKey.{MsgKey}
@@ -41,7 +41,8 @@ pub record TraceKept (scenario : ScenarioParts) (T : List SlotNote) : Type 0 whe
       → p + (scenario.params.bound + scenario.params.lag) < q
   -- a data frame that was carried Clean is never carried after that
   pub data_first : (p q : ℕ) (m : MsgKey) → p < q → Carried T p (tot_of_key m) → Done T q m → ⊥
-  -- a frame that accepts is carried at most bound + lag slots after the data frame was carried Clean
+  -- a frame that accepts is carried at most bound + lag slots after the data frame was carried
+  -- Clean
   pub accept_after : (p : ℕ) (m : MsgKey) → Carried T p (accept_of_key m)
       → (q : ℕ) × (p < q) × (q ≤ p + (scenario.params.bound + scenario.params.lag)) × Done T q m
   pub origin_there : (p : ℕ) (m : MsgKey) → Done T p m → m.origin < scenario.params.nodes
@@ -52,13 +53,15 @@ pub record TraceKept (scenario : ScenarioParts) (T : List SlotNote) : Type 0 whe
   -- no node sends a frame that accepts twice, whatever its incarnations
   pub sent_once : (i p q : ℕ) (m : MsgKey) → p < q → Sends i T p (accept_of_key m) → Sends i T q (accept_of_key m) → ⊥
 
--- why node i sends a frame that accepts: it has read its own transmission of the data frame, or a copy of the one that accepts
+-- why node i sends a frame that accepts: it has read its own transmission of the data frame, or a
+-- copy of the one that accepts
 abbrev pub Cause : ℕ → List SlotNote → ℕ → MsgKey → Type 0
 Cause i T u m =
     ((m.origin ≡ i) × ((q : ℕ) × (u ≤ q) × Sends i T q (tot_of_key m)))
     ⊎ ((m.origin ≡ i → ⊥) × ((q : ℕ) × (u ≤ q) × Gets i T q (accept_of_key m)))
 
--- Of a running node that waits with W, has not read the u newest slots, and whose incarnation sees the trace T and follows the scenario.
+-- Of a running node that waits with W, has not read the u newest slots, and whose incarnation sees
+-- the trace T and follows the scenario.
 pub record NodeKept (scenario : ScenarioParts) (i : ℕ) (T : List SlotNote) (u : ℕ) (W : List FrameParts) : Type 0 where
   pub heard : (p : ℕ) (x : Identity) → Clean T p x → Gets i T p x ⊎ Sends i T p x
   pub data_mine : (m : MsgKey) → waits (tot_of_key m) W ≡ true → m.origin ≡ i
@@ -70,7 +73,8 @@ pub record NodeKept (scenario : ScenarioParts) (i : ℕ) (T : List SlotNote) (u 
   pub accept_age : (m : MsgKey) → waits (accept_of_key m) W ≡ true → (q : ℕ) × Done T q m × (q < u + scenario.params.bound)
   pub accept_cause : (m : MsgKey) → (waits (accept_of_key m) W ≡ true) ⊎ ((p : ℕ) × Sends i T p (accept_of_key m)) → Cause i T u m
   pub accept_once : (m : MsgKey) (p : ℕ) → waits (accept_of_key m) W ≡ true → Sends i T p (accept_of_key m) → ⊥
-  -- where node i is the origin: it waits with the frame that accepts so long as it is carried, unless it has sent it, or has read the closing
+  -- where node i is the origin: it waits with the frame that accepts so long as it is carried,
+  -- unless it has sent it, or has read the closing
   pub origin_waits : (m : MsgKey) (p : ℕ) → m.origin ≡ i → Carried T p (accept_of_key m)
       → (waits (accept_of_key m) W ≡ true) ⊎ (((q : ℕ) × Sends i T q (accept_of_key m)) ⊎ ((q : ℕ) × Done T q m × (u + scenario.params.bound ≤ q)))
   -- and a copy of it that it gets comes after its own, or after the message closed

@@ -1,4 +1,5 @@
--- Agreement of TOTCAN: a settled message stands in the logs of all nodes that take part since its data frame was first carried, or of none.
+-- Agreement of TOTCAN: a settled message stands in the logs of all nodes that take part since its
+-- data frame was first carried, or of none.
 use Rattle.std.proofs.Common.{◌≡◌, ℕ, ◌≤◌, ◌||◌, ◌&&◌, ◌==◌, inl, inr, Bool, true, false, if◌then◌else◌, List, [], ◌∷◌, Contains, Option, Some, None, refl, ap, sym, ◌∙◌, subst, arith}
 use Rattle.std.specs.List.{AllByRecursion, list_any}
 use Rattle.std.proofs.lemmas.Bool.{and_from, eq-eqb, false≢true, or_cases, or_left, or_right}
@@ -223,7 +224,8 @@ at_rest scenario journal few within m stands tot settled =
       read = settled_read scenario s m settled;
     }
 
--- an origin that takes part since the first slot that carried it, has accepted it: it has read its own transmission
+-- an origin that takes part since the first slot that carried it, has accepted it: it has read its
+-- own transmission
 origin_accepts : (scenario : ScenarioParts) (m : Message) (s : RunState) → Ground scenario s → m.service ≡ Tot → AtRest scenario m s → (first : ℕ)
     → first_carried (data_id m) s.trace ≡ Some first → IsCorrectFrom scenario s first m.origin → Among (CarriesClean (data_id m)) s.trace
     → is_accepted_by_some scenario s (message_key m) ≡ true

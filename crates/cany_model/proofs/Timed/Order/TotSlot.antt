@@ -1,5 +1,6 @@
--- A slot keeps what is kept of TOTCAN. What an older incarnation of a node sent lies so long before all that the present one sends, that each
--- fact that the present one cannot see is one of slots far apart.
+-- A slot keeps what is kept of TOTCAN. What an older incarnation of a node sent lies so long before
+-- all that the present one sends, that each fact that the present one cannot see is one of slots
+-- far apart.
 use Rattle.std.proofs.Common.{◌≡◌, ℕ, zero, suc, ◌+◌, ◌<◌, ◌≤◌, ◌⊎◌, inl, inr, true, false, List, [], ◌∷◌, Contains, length, refl, ap, sym, ◌∙◌, subst, arith}
 use Rattle.std.proofs.lemmas.Bool.{both_ways, cases_Bool, cases_lt, cases_order, false≢true}
 use Rattle.std.proofs.lemmas.List.Elements.{All-contains, All-from_recursion}
@@ -137,7 +138,8 @@ module _ (scenario : ScenarioParts) (rules : FaultScript) (s : RunState) (r : Is
   data_sent : (m : MsgKey) → carries_clean (tot_of_key m) note ≡ true → is_sent (tot_of_key m) (given m.origin note) ≡ true
   data_sent m h = offer_sends rules s (tot_of_key m) m.origin r.few (data_offer m (clean_carried (tot_of_key m) note h)) h
 
-  -- a node that waits with a frame that accepts is among its senders: all frames of the identity are one
+  -- a node that waits with a frame that accepts is among its senders: all frames of the identity
+  -- are one
   accept_sender : (m : MsgKey) (i : ℕ) → runs (node_at s.nodes i) ≡ true → waits (accept_of_key m) (held i) ≡ true
       → carries (accept_of_key m) note ≡ true
       → has note.senders i ≡ true

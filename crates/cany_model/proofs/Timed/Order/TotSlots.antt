@@ -1,4 +1,5 @@
--- What a slot of a run says of a frame, by the identity of the frame: who offered it, who sent and who got it, and what waits after the slot.
+-- What a slot of a run says of a frame, by the identity of the frame: who offered it, who sent and
+-- who got it, and what waits after the slot.
 use Rattle.std.proofs.Common.{◌≡◌, ℕ, zero, suc, ◌≤◌, ◌⊎◌, inl, inr, true, false, not, List, [], ◌∷◌, Some, None, Option, Contains, length, refl, ap, sym, ◌∙◌, subst, arith}
 use Rattle.std.proofs.lemmas.Bool.{and_from, and_parts, both_ways, cases_Bool, cond_both, false≢true, not-true, or_cases}
 use Rattle.cany_base.specs.declared.message.MsgKey.{MsgKey}

@@ -143,7 +143,8 @@ module _ (scenario : ScenarioParts) (i : ℕ) (inc : Incarnation) (T : List Slot
         held_last p.0 late.0 m (omega (arith, p.2, late.1)) p.3 late.2
   ]
 
-  -- the data frame of what waits or is asked for was carried Clean, and is not older than the slot that closes now
+  -- the data frame of what waits or is asked for was carried Clean, and is not older than the slot
+  -- that closes now
   done_near : (m : MsgKey) → (waits (accept_of_key m) W ≡ true) ⊎ AskCause scenario.params i m (gave i S u) before
       → (q : ℕ) × Done S q m × (q ≤ u + scenario.params.bound)
   done_near m (inl w) = let a = n.accept_age m w in (a.0, a.1, omega (arith, a.2))

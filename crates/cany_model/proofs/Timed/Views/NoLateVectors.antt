@@ -1,4 +1,5 @@
--- From a quiet slot of the exchange of a membership cycle on no vector of the cycle is carried, and nobody waits with one.
+-- From a quiet slot of the exchange of a membership cycle on no vector of the cycle is carried, and
+-- nobody waits with one.
 use Rattle.std.proofs.Common.{◌≡◌, ℕ, suc, ◌+◌, ◌-◌, ◌*◌, ◌<◌, ◌≤◌, ◌⊎◌, inl, inr, Bool, true, false, nat_lt, List, [], ◌∷◌, ◌++◌, length, map, drop, Option, Some, None, Contains, refl, ap, sym, ◌∙◌, subst, arith, append-nil, append_assoc, length-append, length-drop}
 use Rattle.std.proofs.Math.Nat.{div-lt_iff_lt-mul}
 use Rattle.std.specs.List.{AllByRecursion, list_any}
@@ -75,7 +76,8 @@ first_before p slot k some before =
     let below : first_cycle p slot < suc k = (div-lt_iff_lt-mul some).1 (omega (arith, next, before, some)) in
     omega (arith, below)
 
--- so an incarnation that takes part at the start of a cycle sees its vectors, and one that takes part only later does not
+-- so an incarnation that takes part at the start of a cycle sees its vectors, and one that takes
+-- part only later does not
 pub sees_cycle : (scenario : ScenarioParts) (journal : List Step) (k i : ℕ) → 0 < scenario.params.cycle
     → (node_at (run scenario journal).nodes i).present.from ≤ k * scenario.params.cycle
     → SeesCycle scenario.params k (node_at (run scenario journal).nodes i).present
@@ -121,7 +123,8 @@ carried_late scenario journal few k =
 
 -- ---- from a front of a journal on
 
--- what holds of the run of a front, and is kept by each step that is done, holds of the run of the journal
+-- what holds of the run of a front, and is kept by each step that is done, holds of the run of the
+-- journal
 kept_after : (scenario : ScenarioParts) (P : RunState → Type 0)
     → ((front : List Step) (next : Step) → is_done (reply scenario (run scenario front) next) ≡ true → P (run scenario front)
     → P (proceed scenario (run scenario front) next))
@@ -147,7 +150,8 @@ NoVector k note = (f : FrameParts) → note.frame ≡ Some f → f.class ≡ cla
 abbrev pub NoneWaits : ℕ → RunState → Type 0
 NoneWaits k s = (i : ℕ) → runs (node_at s.nodes i) ≡ true → (r : ℕ) → held (rha_of k r) (node_at s.nodes i).waiting ≡ []
 
--- since an earlier state no slot carried one of it, nobody waits with one, and a node that takes part since the cycle starts ran then
+-- since an earlier state no slot carried one of it, nobody waits with one, and a node that takes
+-- part since the cycle starts ran then
 pub record NoVectorSince (p : Parameters) (k : ℕ) (base s : RunState) : Type 0 where
   pub newer : List SlotNote
   pub trace : s.trace ≡ newer ++ base.trace
@@ -256,8 +260,8 @@ module _ (scenario : ScenarioParts) (k i : ℕ) (c : IsCycle scenario.params k) 
             ap (λ z. by_last_effect z (held (rha_of k r) w)) (turn_other scenario i e before k r (λ q. other (ap (λ (y : Identity). y.node) q))) ∙ free
       ]
 
--- The turn of a notice of the newer slots, none of which carried a vector of the cycle, or of one of the older slots that were unread when
--- none of their turns would have asked for a vector.
+-- The turn of a notice of the newer slots, none of which carried a vector of the cycle, or of one
+-- of the older slots that were unread when none of their turns would have asked for a vector.
 no_vector_waits : (scenario : ScenarioParts) (k i : ℕ) → IsCycle scenario.params k → (newer older : List SlotNote) → AllByRecursion (NoVector k) newer
     → k * scenario.params.cycle < length older → (u unread : ℕ) → 0 < u → u ≤ length (newer ++ older) → u ≤ length newer + unread
     → ((age : ℕ) → age < unread → list_any asks_for_first_class (turn_effects scenario i (past i older age)) ≡ false)

@@ -1,5 +1,5 @@
--- One view: the nodes that take part in a membership cycle since it starts install one vector at its end, and those that take part only since
--- later have none there.
+-- One view: the nodes that take part in a membership cycle since it starts install one vector at
+-- its end, and those that take part only since later have none there.
 use Rattle.std.proofs.Common.{◌≡◌, ◌≢◌, ℕ, zero, suc, ◌+◌, ◌*◌, ◌%◌, ◌<◌, ◌≤◌, ◌==◌, inl, inr, true, false, nat_lt, List, [], ◌∷◌, ◌++◌, length, map, drop, Option, Some, None, refl, ap, sym, ◌∙◌, subst, arith, length-append, length-drop}
 use Rattle.std.specs.List.{AllByRecursion}
 use Rattle.std.proofs.lemmas.Bool.{and_from, and_right, both_ways, cases_eq, cases_lt, cond-false, eq-eqb, lt-ltb, ne_eqb}
@@ -183,7 +183,8 @@ none_first scenario i long (e ∷ before) = elim (cases_eq (length before) (0 * 
 
 -- ---- what is known in a quiet state
 
--- what was given to a running node is read of nodes of the bus, and so its vector is of such nodes, wherever it stands
+-- what was given to a running node is read of nodes of the bus, and so its vector is of such nodes,
+-- wherever it stands
 vectors_of_bus : (scenario : ScenarioParts) (journal : List Step) → scenario.params.nodes ≤ most_nodes
     → AllBelow scenario.params.nodes scenario.members → (i : ℕ) (inc : Incarnation) (age : ℕ)
     → IsVectorOfBus scenario.params (vector_at (scenario_for scenario inc) i (past i (seen inc (run scenario journal).trace) age))
@@ -257,7 +258,8 @@ module _ (scenario : ScenarioParts) (few : scenario.params.nodes ≤ most_nodes)
 
     -- ---- two nodes that have read the end of the cycle
 
-    -- such a node installs the vector that it had, over all that it was given, in the state from which on nothing of the cycle is carried
+    -- such a node installs the vector that it had, over all that it was given, in the state from
+    -- which on nothing of the cycle is carried
     installed_calm : (base s : RunState) → NoVectorSince p k base s → k * p.cycle < slots_run base → slots_run base ≤ k * p.cycle + p.bound
         → (i : ℕ) → (node_at s.nodes i).unread ≤ slots_run s → k * p.cycle + p.bound < reads s i
         → let inc = (node_at s.nodes i).present in
@@ -382,7 +384,8 @@ module _ (scenario : ScenarioParts) (journal : List Step) (few : scenario.params
         late_installed (scenario_for scenario inc) inc (suc k) i c (from_later scenario inc after.later) (members_later scenario inc after.later)
         after from (history i s) (history-seen scenario.params.nodes s (orderly scenario journal) i) (heard after.later)
 
--- the nodes that take part since a cycle starts and have read its end install one vector there, and those that come later none
+-- the nodes that take part since a cycle starts and have read its end install one vector there, and
+-- those that come later none
 pub one_vector : (scenario : ScenarioParts) (journal : List Step) → scenario.params.nodes ≤ most_nodes
     → scenario.params.nodes ≤ (layout scenario.params.format).nodes → MeetsFormulas scenario.params
     → AllBelow scenario.params.nodes scenario.members → IsWithin scenario.params (run scenario journal).trace → HasQuietSlots scenario journal

@@ -1,5 +1,5 @@
--- Correct nodes whose logs have a view of one number have equal members in it: a view that is logged is the vector that was installed at the
--- end of the cycle of its number.
+-- Correct nodes whose logs have a view of one number have equal members in it: a view that is
+-- logged is the vector that was installed at the end of the cycle of its number.
 use Rattle.std.proofs.Common.{◌≡◌, ℕ, ◌+◌, ◌*◌, ◌%◌, ◌<◌, ◌≤◌, ◌==◌, ◌&&◌, inl, inr, Bool, true, false, nat_lt, List, [], ◌∷◌, length, count_by, Option, Some, None, Contains, refl, ap, sym, ◌∙◌, subst, arith}
 use Rattle.std.specs.List.{AllByRecursion}
 use Rattle.std.proofs.lemmas.Bool.{and_from, and_parts, cases_Bool, cases_lt, cond-false, cond_both, eq-eqb, eqb-true}

@@ -1,5 +1,6 @@
--- How a fact about each running node is proved of every run where its proof rests on this, that what the node has read belongs to the scenario.
--- It speaks of the scenario that the node's incarnation follows, of the trace as this sees it, and of what the node has read and waits with.
+-- How a fact about each running node is proved of every run where its proof rests on this, that
+-- what the node has read belongs to the scenario. It speaks of the scenario that the node's
+-- incarnation follows, of the trace as this sees it, and of what the node has read and waits with.
 use Rattle.std.proofs.Common.{ℕ, ◌≤◌, List, ◌∷◌, drop, sym, subst}
 use Rattle.cany_base.specs.declared.notice.NoticeKind.{NoticeKind}
 use Rattle.cany_base.specs.declared.slot_note.SlotNote.{SlotNote}

@@ -1,4 +1,5 @@
--- Running nodes that have read the same slots have one view, in a scenario without restarts, where the vectors that they install are one.
+-- Running nodes that have read the same slots have one view, in a scenario without restarts, where
+-- the vectors that they install are one.
 use Rattle.std.proofs.Common.{◌≡◌, ℕ, ◌+◌, ◌-◌, ◌*◌, ◌%◌, ◌<◌, ◌≤◌, ◌==◌, nat_lt, Bool, true, false, List, [], ◌∷◌, ◌++◌, length, map, drop, take, None, refl, ap, sym, ◌∙◌, arith, append_assoc, length-append, length-drop}
 use Rattle.std.proofs.lemmas.Bool.{and_parts, eqb-true, ltb-true}
 use Rattle.std.proofs.lemmas.List.{drop-append-le, length-map, take-append-drop}

@@ -1,5 +1,5 @@
--- At the turn of a node at the start of a cycle all running nodes have its view, at each slot before it. Of scenarios without restart entries, where
--- the vectors that nodes install are one.
+-- At the turn of a node at the start of a cycle all running nodes have its view, at each slot
+-- before it. Of scenarios without restart entries, where the vectors that nodes install are one.
 use Rattle.std.proofs.Common.{◌≡◌, ℕ, suc, ◌+◌, ◌-◌, ◌*◌, ◌<◌, ◌≤◌, inl, inr, Bool, true, false, List, [], ◌∷◌, ◌++◌, length, map, drop, Some, None, refl, ap, sym, ◌∙◌, subst, arith, append_assoc, length-append, length-drop}
 use Rattle.std.proofs.Math.Nat.{mul-le-mul_right}
 use Rattle.std.proofs.Math.Seq.{drop-append_seam}

@@ -1,5 +1,6 @@
--- How many frames of a membership cycle a node sends: each has a smaller vector than the one before. So the frames that it has sent, the
--- one that waits, and the size of its present vector are together no more than one more than there are nodes.
+-- How many frames of a membership cycle a node sends: each has a smaller vector than the one
+-- before. So the frames that it has sent, the one that waits, and the size of its present vector
+-- are together no more than one more than there are nodes.
 use Rattle.std.proofs.Common.{◌≡◌, ℕ, ◌+◌, ◌*◌, ◌<◌, ◌≤◌, ◌==◌, inl, inr, Bool, true, false, List, [], ◌∷◌, length, Option, Some, None, count_by, refl, ap, sym, ◌∙◌, subst, arith}
 use Rattle.std.specs.List.{AllByRecursion}
 use Rattle.std.proofs.lemmas.Bool.{both_ways, cases_Bool, cases_eq, eq-eqb}
@@ -51,7 +52,8 @@ sent_count k i trace = count_by (is_sent_note k i) trace
 abbrev pub spent : ℕ → ℕ → List SlotNote → List FrameParts → ℕ
 spent k i trace waiting = sent_count k i trace + length (held (rha_of k i) waiting)
 
--- what it may still ask for: all that there can be where it has no vector yet, and else no more than its vector has nodes
+-- what it may still ask for: all that there can be where it has no vector yet, and else no more
+-- than its vector has nodes
 pub credit : ℕ → Option Nodes → ℕ
 credit n None = n + 1
 credit n (Some v) = size v n

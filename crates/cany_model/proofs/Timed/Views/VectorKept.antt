@@ -1,5 +1,5 @@
--- What is kept of a node's vector of a membership cycle, and of the frames by which it sends it: of the trace that its incarnation sees, of
--- what it has read, and of what waits.
+-- What is kept of a node's vector of a membership cycle, and of the frames by which it sends it: of
+-- the trace that its incarnation sees, of what it has read, and of what waits.
 use Rattle.std.proofs.Common.{◌≡◌, ◌≢◌, ℕ, ◌+◌, ◌*◌, ◌<◌, ◌≤◌, ◌⊎◌, List, [], ◌∷◌, length, Option, Some, None, count_by}
 use Rattle.std.specs.List.{AllByRecursion}
 use Rattle.cany_base.specs.declared.notice.NoticeKind.{NoticeKind}

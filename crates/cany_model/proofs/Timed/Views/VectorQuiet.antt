@@ -1,5 +1,5 @@
--- In a quiet state the nodes have one vector of the membership cycle, over all that the slots gave them, read or not: what is unread is taken
--- as read, since no turn of it asks for a vector.
+-- In a quiet state the nodes have one vector of the membership cycle, over all that the slots gave
+-- them, read or not: what is unread is taken as read, since no turn of it asks for a vector.
 use Rattle.std.proofs.Common.{◌≡◌, ◌≢◌, ℕ, zero, suc, ◌+◌, ◌*◌, ◌<◌, ◌≤◌, ◌⊎◌, ◌==◌, ◌||◌, inl, inr, Bool, true, false, List, [], ◌∷◌, length, map, drop, Option, Some, None, Contains, count_by, nat_lt, unwrap_or, refl, ap, sym, ◌∙◌, subst, arith}
 use Rattle.std.specs.List.{AllByRecursion, list_any}
 use Rattle.std.proofs.lemmas.Bool.{and_from, and_parts, both_ways, cases_Bool, cases_eq, eq-eqb, false_from_ne_true, false≢true, ltb-true, or_parts}

@@ -1,4 +1,5 @@
--- Parts of sets of nodes, and their sizes: a part that is not the whole is smaller. And sets as the vectors of frames.
+-- Parts of sets of nodes, and their sizes: a part that is not the whole is smaller. And sets as the
+-- vectors of frames.
 use Rattle.std.proofs.Common.{◌≡◌, ◌≢◌, ℕ, zero, suc, ◌+◌, ◌<◌, ◌≤◌, ◌⊎◌, inl, inr, if◌then◌else◌, Bool, true, false, Option, Some, None, refl, ap, sym, ◌∙◌, subst, arith}
 use Rattle.std.proofs.lemmas.Bool.{both_ways, cases_Bool, cases_eq, cases_lt, eqb-true, false≢true}
 use Rattle.cany_base.specs.Limits.{most_nodes}

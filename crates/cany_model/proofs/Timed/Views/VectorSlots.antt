@@ -1,5 +1,5 @@
--- When vectors are carried, and by whom: after the start of their cycle, no later than the lag allows after its exchange, and by the node
--- that they name.
+-- When vectors are carried, and by whom: after the start of their cycle, no later than the lag
+-- allows after its exchange, and by the node that they name.
 use Rattle.std.proofs.Common.{◌≡◌, ℕ, zero, suc, ◌+◌, ◌-◌, ◌*◌, ◌<◌, ◌≤◌, inl, inr, true, List, [], ◌∷◌, ◌++◌, drop, length, Some, ap, sym, ◌∙◌, subst, arith, length-append}
 use Rattle.std.specs.List.{AllByRecursion}
 use Rattle.std.proofs.Math.Seq.{drop-append_seam}
@@ -66,7 +66,8 @@ pub record IsCycleSlot (p : Parameters) (trace : List SlotNote) (note : SlotNote
   pub node : f.node < p.nodes
   pub sender : has note.senders f.node ≡ true
 
--- a node that waits with its vector of a cycle has read the start and not yet the end of the exchange
+-- a node that waits with its vector of a cycle has read the start and not yet the end of the
+-- exchange
 waits_within : (scenario : ScenarioParts) (k i : ℕ) (trace : List SlotNote) (past : List NoticeKind) (w : List FrameParts)
     → BudgetKept scenario k i trace past w → (held (rha_of k i) w ≡ [] → ⊥)
     → (k * scenario.params.cycle < length past) × (length past ≤ k * scenario.params.cycle + scenario.params.bound)

@@ -288,7 +288,8 @@ module _ (scenario : ScenarioParts) (fits : scenario.params.nodes ≤ (layout sc
   open_none : (past : List NoticeKind) (w : List FrameParts) (v : Option Nodes) → v ≡ None → IsOpen scenario k i trace past w v → held x w ≡ []
   open_none past w v e h = (subst (IsOpen scenario k i trace past w) e h).0
 
-  -- it is kept by a turn whose notice comes after what was read, and which leaves a vector of nodes of the bus
+  -- it is kept by a turn whose notice comes after what was read, and which leaves a vector of nodes
+  -- of the bus
   pub vector_turn : IsCycle p k → (e : NoticeKind) (past : List NoticeKind) → HasRead i trace (e ∷ past)
       → IsVectorOfBus p (vector_at scenario i (e ∷ past)) → (w : List FrameParts)
       → VectorKept scenario k i trace past w → VectorKept scenario k i trace (e ∷ past) (waiting_after (turn_effects scenario i (e ∷ past)) w)

@@ -1,5 +1,5 @@
--- What a turn does of the vectors of one membership cycle, in each part of the cycle: the vector that the node has after it, and the last
--- effect on the frame of its vector.
+-- What a turn does of the vectors of one membership cycle, in each part of the cycle: the vector
+-- that the node has after it, and the last effect on the frame of its vector.
 use Rattle.std.proofs.Common.{◌≡◌, ℕ, ◌+◌, ◌-◌, ◌*◌, ◌/◌, ◌%◌, ◌<◌, ◌==◌, ◌&&◌, ◌≢◌, ◌⊎◌, inl, inr, true, false, List, ◌∷◌, length, Option, Some, None, nat_lt, nat_le, refl, ap, sym, ◌∙◌, arith}
 use Rattle.std.proofs.lemmas.Bool.{and_from, and_left, and_right, cases_eq, cond-true, eq-eqb, lt-leb, lt-ltb}
 use Rattle.std.proofs.lemmas.Nat.{div-add-mod'}

@@ -1,5 +1,6 @@
--- The slots that make a node ask for a frame that accepts, or for a vector: those that bring one, those in which a data frame of TOTCAN was
--- sent with success, and those in which a cycle starts. A window has few of them.
+-- The slots that make a node ask for a frame that accepts, or for a vector: those that bring one,
+-- those in which a data frame of TOTCAN was sent with success, and those in which a cycle starts. A
+-- window has few of them.
 use Rattle.std.specs.Prelude.{slice_index_or}
 use Rattle.std.proofs.Common.{◌≡◌, ℕ, zero, suc, ◌+◌, ◌-◌, ◌*◌, ◌/◌, ◌%◌, ◌<◌, ◌≤◌, ◌⊎◌, ◌==◌, ◌&&◌, ◌||◌, inl, inr, Bool, true, false, nat_lt, List, [], ◌∷◌, ◌++◌, Option, Some, None, count_by, drop, length, map, take, refl, ap, sym, ◌∙◌, subst, arith, drop-cons, length-drop}
 use Rattle.std.specs.List.{AllByRecursion, list_any, range_with_len}
@@ -74,7 +75,8 @@ use Rattle.cany_model.proofs.Timed.Windows.TopFrames.{clean_or_error, is_carried
 abbrev pub is_first : FrameParts → Bool
 is_first f = same_class f.class class.Accept || same_class f.class class.Rha
 
--- the notice may make a node ask for such a frame: it brings one, or the node has sent a data frame of TOTCAN
+-- the notice may make a node ask for such a frame: it brings one, or the node has sent a data frame
+-- of TOTCAN
 abbrev pub is_cause : NoticeKind → Bool
 is_cause Idle = false
 is_cause (Got f) = is_first f
@@ -461,7 +463,8 @@ few_may_ask scenario s orderly formulas within accepts vectors sends newest =
 
 -- ---- every run
 
--- if an incarnation of one of these nodes asks at the notice of an age, it does so because of that slot
+-- if an incarnation of one of these nodes asks at the notice of an age, it does so because of that
+-- slot
 one_asks : (scenario : ScenarioParts) (s : RunState) → IsOrderly scenario.params.nodes s → (age : ℕ) → is_silent_slot (note_at s.trace age) ≡ false
     → (nodes : List ℕ) → list_any (λ i. list_any (λ e. asks_as scenario s i e.incarnation age) (incarnations s i)) nodes ≡ true
     → may_make_ask scenario.params (note_at s.trace age) ≡ true

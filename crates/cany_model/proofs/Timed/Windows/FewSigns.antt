@@ -1,4 +1,5 @@
--- Few life signs: each node, whatever its incarnations, sends at most one in any bound + lag consecutive slots.
+-- Few life signs: each node, whatever its incarnations, sends at most one in any bound + lag
+-- consecutive slots.
 use Rattle.std.proofs.Common.{◌≡◌, ℕ, zero, suc, ◌+◌, ◌-◌, ◌<◌, ◌≤◌, ◌⊎◌, ◌==◌, inl, inr, Bool, true, false, List, [], ◌∷◌, ◌++◌, Contains, count_by, drop, length, take, refl, ap, sym, ◌∙◌, subst, arith, length-drop}
 use Rattle.std.specs.List.{AllByRecursion}
 use Rattle.std.proofs.lemmas.Bool.{and_from, and_parts, cases_Bool, eq-eqb, false≢true}

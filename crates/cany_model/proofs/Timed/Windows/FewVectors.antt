@@ -1,4 +1,5 @@
--- A window of bound + lag slots has vectors of one membership cycle alone, and of each node no more than one more than there are nodes.
+-- A window of bound + lag slots has vectors of one membership cycle alone, and of each node no more
+-- than one more than there are nodes.
 use Rattle.std.proofs.Common.{◌≡◌, ℕ, zero, suc, ◌+◌, ◌-◌, ◌*◌, ◌<◌, ◌≤◌, ◌⊎◌, ◌==◌, ◌&&◌, inl, inr, Bool, true, false, List, [], ◌∷◌, drop, take, length, Some, count_by, refl, ap, sym, ◌∙◌, subst, arith}
 use Rattle.std.proofs.Math.Nat.{mul-le-mul_left}
 use Rattle.std.proofs.lemmas.Bool.{and_from, and_parts, both_ways, cases_Bool, cases_lt, cases_order, eq-eqb, eqb-true, false≢true}
@@ -328,7 +329,8 @@ module _ (scenario : ScenarioParts) (few : scenario.params.nodes ≤ most_nodes)
             let equal = same_cycle age age' v w (omega (arith, at, at', below, below')) (omega (arith, at, at', below, below')) in
             back k b age' at' below' (number_clean k (note_at all age') w (sym equal ∙ number))
 
--- At most so many vectors are carried Clean in a window of bound + lag slots, of all nodes and incarnations.
+-- At most so many vectors are carried Clean in a window of bound + lag slots, of all nodes and
+-- incarnations.
 pub few_vectors : (scenario : ScenarioParts) (journal : List Step) → scenario.params.nodes ≤ most_nodes → MeetsFormulas scenario.params
     → AllBelow scenario.params.nodes scenario.members → HasFewVectors scenario.params (run scenario journal).trace
 few_vectors scenario journal few formulas first newest =

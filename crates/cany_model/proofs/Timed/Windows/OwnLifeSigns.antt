@@ -1,4 +1,5 @@
--- What a node's own life signs do to the slot of its last life: one that it has read as sent sets it, and nothing sets it back.
+-- What a node's own life signs do to the slot of its last life: one that it has read as sent sets
+-- it, and nothing sets it back.
 use Rattle.std.proofs.Common.{◌≡◌, ℕ, zero, suc, ◌+◌, ◌<◌, ◌≤◌, ◌==◌, inl, inr, Bool, true, ◌||◌, List, [], ◌∷◌, map, length, refl, ap, sym, ◌∙◌, arith}
 use Rattle.std.proofs.lemmas.Bool.{and_from, and_parts, cond_both, false≢true, or_left}
 use Rattle.std.proofs.lemmas.List.{length-map}

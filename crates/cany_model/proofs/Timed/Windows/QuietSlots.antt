@@ -1,5 +1,6 @@
--- The quiet slot: of any so many consecutive slots as the bound has, one carried no frame of the classes that win arbitration, and none of the
--- lag slots before it may make a node ask for a frame that accepts or for a vector. It was run in a quiet state.
+-- The quiet slot: of any so many consecutive slots as the bound has, one carried no frame of the
+-- classes that win arbitration, and none of the lag slots before it may make a node ask for a frame
+-- that accepts or for a vector. It was run in a quiet state.
 use Rattle.std.proofs.Common.{◌≡◌, ℕ, suc, ◌+◌, ◌-◌, ◌*◌, ◌<◌, ◌≤◌, Bool, false, List, ◌∷◌, ◌++◌, count_by, drop, length, take, refl, ap, sym, ◌∙◌, subst, arith, add-zero, drop-drop, length-append}
 use Rattle.std.specs.List.{range_with_len}
 use Rattle.std.proofs.Math.Seq.{drop-append_seam}
@@ -30,7 +31,8 @@ use Rattle.cany_model.proofs.Timed.Windows.TopFrames.{few_top_slots, is_top_slot
 
 -- ---- one slot
 
--- a slot that carried no top frame, where none of the lag slots before it may make a node ask, was run in a quiet state
+-- a slot that carried no top frame, where none of the lag slots before it may make a node ask, was
+-- run in a quiet state
 quiet_state : (scenario : ScenarioParts) (s : RunState) → IsOrderly scenario.params.nodes s → MaySlot scenario s
     → ((age : ℕ) → is_silent_slot (note_at s.trace age) ≡ false) → is_top_slot (slot_note_of (script scenario.rules) s) ≡ false
     → ((age : ℕ) → age < scenario.params.lag → may_make_ask scenario.params (note_at s.trace age) ≡ false) → IsQuiet scenario s

@@ -1,6 +1,7 @@
--- A node's own life signs, by ages: when those were asked for that wait, or were sent and are not read, and how far the others lie back. A
--- sign is asked for only where the last life lies a life interval back. While it waits, each slot carries a frame that wins arbitration, so
--- it does not wait so long that the next would be due.
+-- A node's own life signs, by ages: when those were asked for that wait, or were sent and are not
+-- read, and how far the others lie back. A sign is asked for only where the last life lies a life
+-- interval back. While it waits, each slot carries a frame that wins arbitration, so it does not
+-- wait so long that the next would be due.
 use Rattle.std.proofs.Common.{◌≡◌, ℕ, zero, suc, ◌+◌, ◌<◌, ◌≤◌, ◌⊎◌, inl, inr, true, List, ◌∷◌, length, arith}
 use Rattle.std.proofs.lemmas.Bool.{cases_lt, cond-true}
 use Rattle.cany_base.specs.declared.slot_note.SlotNote.{SlotNote}
@@ -12,13 +13,13 @@ use Rattle.cany_model.proofs.Timed.Windows.SignTops.{FewTops, Top, no_crowd}
 use Rattle.cany_model.proofs.Timed.Windows.OwnLifeSigns.{SendsSign}
 use Rattle.cany_model.proofs.Timed.Windows.TopFrames.{is_top_slot}
 
--- A sign was asked for in the turn of this age, where so many slots have run: the last life lies a life interval back from it, or has come
--- since.
+-- A sign was asked for in the turn of this age, where so many slots have run: the last life lies a
+-- life interval back from it, or has come since.
 abbrev pub Due : (life last ran age : ℕ) → Type 0
 Due life last ran age = (last + life + suc age ≡ ran) ⊎ (ran < last + suc age)
 
--- All that follows is of the whole trace, of the trace as the node's incarnation sees it, of the number of slots that it has not read,
--- and of the slot of its own last life.
+-- All that follows is of the whole trace, of the trace as the node's incarnation sees it, of the
+-- number of slots that it has not read, and of the slot of its own last life.
 
 -- the sign that waits
 pub record WaitsSince (p : Parameters) (i : ℕ) (trace own : List SlotNote) (unread last : ℕ) : Type 0 where
@@ -111,8 +112,9 @@ module _ (p : Parameters) (i : ℕ) (note shown : SlotNote) (trace own : List Sl
 
 -- ---- a turn
 
--- The slot of the last life stays, or is that of the turn. No sign is asked for, or one is, where the last life lies a life interval back
--- from the turn. And the last life is no older than any sign that is read.
+-- The slot of the last life stays, or is that of the turn. No sign is asked for, or one is, where
+-- the last life lies a life interval back from the turn. And the last life is no older than any
+-- sign that is read.
 module _ (p : Parameters) (formulas : MeetsFormulas p) (i : ℕ) (trace own : List SlotNote) (unread last now before after : ℕ)
     (few : FewTops p trace) (moved : (now ≡ last) ⊎ (now + suc unread ≡ length trace))
     (asks : (after ≤ before) ⊎ ((after ≤ suc before) × (now + p.life + suc unread ≡ length trace)))

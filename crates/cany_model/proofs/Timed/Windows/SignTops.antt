@@ -1,5 +1,5 @@
--- While a running node waits with its life sign, each slot carries a frame of the classes that win arbitration. So it waits fewer slots
--- than the bound.
+-- While a running node waits with its life sign, each slot carries a frame of the classes that win
+-- arbitration. So it waits fewer slots than the bound.
 use Rattle.std.proofs.Common.{◌≡◌, ℕ, zero, suc, ◌+◌, ◌<◌, ◌≤◌, ◌||◌, inl, inr, Bool, true, false, List, [], ◌∷◌, count_by, drop, take, refl, arith}
 use Rattle.std.specs.List.{list_any}
 use Rattle.std.proofs.lemmas.Bool.{both_ways, cases_Bool, or_right}

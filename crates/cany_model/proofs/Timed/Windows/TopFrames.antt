@@ -1,5 +1,5 @@
--- Frames of the classes that win arbitration: few slots of a window carried one, and where a slot carried none, no running node waited
--- with one.
+-- Frames of the classes that win arbitration: few slots of a window carried one, and where a slot
+-- carried none, no running node waited with one.
 use Rattle.std.proofs.Common.{◌≡◌, ℕ, ◌+◌, ◌*◌, ◌≤◌, ◌⊎◌, ◌==◌, ◌||◌, inl, inr, Bool, true, false, not, nat_lt, if◌then◌else◌, List, [], ◌∷◌, Option, Some, None, count_by, drop, length, take, refl, ap, sym, ◌∙◌, arith}
 use Rattle.std.specs.List.{flat_map, list_any}
 use Rattle.std.proofs.lemmas.Bool.{and_from, both_ways, cases_lt, cond_both, false_from_ne_true, or_cases, or_left, or_right}

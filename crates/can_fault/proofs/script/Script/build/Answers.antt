@@ -1,4 +1,5 @@
--- A rule is entered where its place is free, and else it is the first that has the place of an earlier one.
+-- A rule is entered where its place is free, and else it is the first that has the place of an
+-- earlier one.
 use Rattle.std.proofs.Common.{◌≡◌, ◌+◌, ◌∷◌, ◌++◌, [], Option, Some, None, false, length, take, refl, ap, sym, ◌∙◌, subst}
 use Rattle.std.specs.Option.{is_some}
 use Rattle.std.proofs.lemmas.Bool.{false≢true}

@@ -1,4 +1,5 @@
--- What becomes of the vector, and what follows, by whether the new one is covered, and whether it is another.
+-- What becomes of the vector, and what follows, by whether the new one is covered, and whether it
+-- is another.
 use Rattle.std.proofs.Common.{◌≡◌, ℕ, Bool, false, true, List, [], ◌∷◌, ◌++◌, if◌then◌else◌, ap, subst, sym, ◌∙◌}
 use Rattle.std.proofs.lemmas.List.{append-nil}
 use Rattle.cany_base.specs.declared.actions.Action.{Action}

@@ -1,4 +1,5 @@
--- The turn: what stands after each step, at the notices that there are, and at all that the value stands for.
+-- The turn: what stands after each step, at the notices that there are, and at all that the value
+-- stands for.
 use Rattle.std.proofs.Common.{◌≡◌, ◌<◌, length, ap, arith, ◌∙◌}
 use Rattle.cany_base.specs.declared.notice.Notice.{Notice}
 use Rattle.cany_base.specs.Nodes.{Nodes}

@@ -1,4 +1,5 @@
--- A fault is entered where none of the earlier ones shares a slot with it, and else it is the first that does.
+-- A fault is entered where none of the earlier ones shares a slot with it, and else it is the first
+-- that does.
 use Rattle.std.proofs.Common.{◌≡◌, ◌+◌, ◌∷◌, ◌++◌, [], true, false, Ok, Some, length, take, refl, ap, sym, ◌∙◌, subst, arith}
 use Rattle.std.proofs.lemmas.List.{take_more}
 use Rattle.std.proofs.lemmas.Option.{slice_get_read}

@@ -1,4 +1,5 @@
--- Before the slot of the next closing, and that of the next message of the backlog, an idle notice changes nothing.
+-- Before the slot of the next closing, and that of the next message of the backlog, an idle notice
+-- changes nothing.
 use Rattle.std.proofs.Common.{◌≡◌, ◌-◌, ◌<◌, ◌≤◌, None, length, ap, sym, ◌∙◌, subst, arith}
 use Rattle.cany_totcan.specs.Backlog.{next_given}
 use Rattle.cany_totcan.specs.Queue.{oldest_from}
