@@ -7,9 +7,12 @@ use Rattle.std.proofs.lemmas.Bool.{and_from, cases_Bool, cases_eq, eq-eqb, false
 use Rattle.std.proofs.lemmas.List.{get_or-reverse, length-reverse}
 use Rattle.std.proofs.lemmas.Option.{slice_get-get_or}
 use Rattle.cany_base.specs.declared.rule.Verdict.{Verdict}
+use Rattle.cany_base.specs.declared.rule.Verdict.TheVariants.{Clean, Lost, Partial, Silent}
 use Rattle.cany_base.specs.declared.slot_note.SlotNote.{SlotNote}
 use Rattle.cany_base.specs.Limits.{most_nodes}
 use Rattle.cany_base.specs.Nodes.{AllBelow, Nodes, has, meet, those_where, is_nobody}
+use Rattle.cany_base.specs.Params.{Parameters}
+use Rattle.cany_base.specs.Scenario.{IsVerdictOf}
 use Rattle.cany_base.proofs.NodesFacts.{AllBelow-bits, bits_where-lt, has_lowest, has_none}
 use Rattle.cany_model.specs.Bus.Slot.{is_clean}
 use Rattle.cany_model.specs.Bus.State.{RunState}
@@ -66,6 +69,13 @@ no_node nodes t count below none = range_none (λ i. has nodes i && t i) 0 most_
   | inl here ↦ none k (below k here)
   | inr other ↦ rw other refl
 ])
+
+-- the set of a verdict has nodes of the bus alone
+pub reject_set_below : (p : Parameters) (verdict : Verdict) → IsVerdictOf p verdict → AllBelow p.nodes (reject_set verdict)
+reject_set_below p Clean is = λ node here. absurd (false≢true (sym (has_none node) ∙ here))
+reject_set_below p Lost is = λ node here. absurd (false≢true (sym (has_none node) ∙ here))
+reject_set_below p (Partial reject) is = is
+reject_set_below p (Silent reject) is = is
 
 -- a set that has the nodes of both
 pub some_of_both : (a b both : Nodes) → both.bits < 2 ^ most_nodes → ((i : ℕ) → has both i ≡ (has a i && has b i)) → some_node_of a (has b) ≡ not (is_nobody both)

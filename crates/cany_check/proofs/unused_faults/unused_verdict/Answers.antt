@@ -2,9 +2,12 @@ use Rattle.std.proofs.Common.{ap, sym, ◌∙◌}
 use Rattle.cany_base.specs.Nodes.{is_nobody}
 use Rattle.cany_world.specs.World.{state_of}
 use Rattle.cany_check.specs.Unused.{is_receiver, some_node_of}
-use Rattle.cany_check.proofs.FaultFacts.{verdict_none, verdict_rejects, verdict_some}
+use Rattle.cany_check.proofs.FaultFacts.{reject_set_below, verdict_none, verdict_rejects, verdict_some}
 use Rattle.cany_check.proofs.unused_faults.unused_verdict.Goals.{then-is_empty-via-then-is_empty, then-is_empty-via-else-is_empty+then-has_receiver}
 use Rattle.cany_check.proofs.unused_faults.unused_verdict.Goals as goal
+
+pub has_receiver-requires : goal.has_receiver-requires
+has_receiver-requires c = rw c.reject_set-reject.ensures (reject_set_below c.args.world.now.scenario.params c.args.verdict.now c.requires)
 
 pub returns-then-is_empty : goal.returns-then-is_empty
 returns-then-is_empty c =
