@@ -11,7 +11,7 @@ use Rattle.std.proofs.lemmas.List.Folds.{list_any-append}
 use Rattle.std.proofs.lemmas.List.Sums.{fold-append}
 use Rattle.cany_base.specs.declared.log_entry.LogEntry.{LogEntry}
 use Rattle.cany_base.specs.Limits.{most_nodes}
-use Rattle.cany_base.specs.Nodes.{has, has as is_in, minus, nobody, those_where, with_node}
+use Rattle.cany_base.specs.Nodes.{Nodes, has, has as is_in, minus, nobody, those_where, with_node}
 use Rattle.cany_base.proofs.NodesFacts.{has-those_where, has_none, same_as_those_where, those_where-ext}
 use Rattle.cany_base.proofs.SetFacts.{with_node_twice}
 use Rattle.cany_check.specs.declared.holders.Holders.{Holders}
