@@ -1,6 +1,7 @@
 #!/usr/bin/env python3
-"""Checks that the scenarios give their reports, that the program's messages are as wanted, and that the pages name what exists
-and count what is there. Run it at any time: python3 .ci/check_pages.py [--program PATH]. docs/tests.md says more."""
+"""Checks that the scenarios give their reports, that the program's messages are as wanted, that the pages name what exists and
+count what is there, and that comments are wrapped. Run it at any time: python3 .ci/check_pages.py [--program PATH].
+docs/tests.md says more."""
 import argparse
 import sys
 import traceback
@@ -11,6 +12,7 @@ ROOT = Path(__file__).resolve().parent.parent
 
 import answers
 import calls
+import comments
 import counts
 import examples
 import program as programs
@@ -35,6 +37,7 @@ def main():
         "examples": lambda: examples.check(ROOT, tally, built),
         "counts": lambda: counts.check(ROOT, tally),
         "answers": lambda: answers.check(ROOT, tally),
+        "comments": lambda: comments.check(ROOT, tally),
     }
     for subject, check in subjects.items():
         passed, failed = tally.passed, tally.failed

@@ -158,8 +158,8 @@ impl Command for Media {
 /// or, where it has none, by its round robin journal, and writes a line for each fault and the
 /// report of the run to the sink. It answers the status of the program, one of those in
 /// `cany_command::status`. The words are `media` and any number of words `LINE:FROM-TO:down` and
-/// `LINE:FROM-TO:split:SET`; causes are looked at in this order: the words, faults that share a slot,
-/// the reading, the text, too many slots without a whole line, the journal, the writing.
+/// `LINE:FROM-TO:split:SET`; causes are looked at in this order: the words, faults that share a
+/// slot, the reading, the text, too many slots without a whole line, the journal, the writing.
 pub fn media_top<S: Source, K: Sink>(
     alloc: Global,
     words: &[String],
