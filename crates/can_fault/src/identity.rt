@@ -8,13 +8,16 @@ use cany_base::{Class, Frame, NodeId};
 #[derive(Clone, Copy, PartialEq, Eq, PartialOrd, Ord, Hash)]
 pub struct FrameIdentity {
     pub class: Class,
+    /// The number in its identifier, of which its class decides what it counts.
     pub number: u16,
+    /// The node in its identifier, which need not be a sender of it.
     pub node: NodeId,
 }
 
 impl FrameIdentity {
     ghost use Rattle.can_fault.specs.Identities.{frame_identity};
 
+    /// Of the frame that a rule names.
     pub fn new(class: Class, number: u16, node: NodeId) -> FrameIdentity
         ensures { result ≡ record { class = class; number = number; node = node } }
     {
@@ -25,6 +28,7 @@ impl FrameIdentity {
         }
     }
 
+    /// Of a frame that the bus carries. Neither its data nor an incarnation tells it apart.
     pub fn of(frame: &Frame) -> FrameIdentity
         ensures { result ≡ frame_identity (identity_of frame.now) }
     {
@@ -32,9 +36,10 @@ impl FrameIdentity {
     }
 }
 
-/// An attempt to carry a frame, counted from 1.
+/// An attempt to carry a frame.
 #[derive(Clone, Copy, PartialEq, Eq, PartialOrd, Ord)]
 pub struct Attempt {
     pub identity: FrameIdentity,
+    /// Which of the frame's attempts it is, counted from 1.
     pub nth: u64,
 }

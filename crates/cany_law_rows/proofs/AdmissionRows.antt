@@ -43,8 +43,7 @@ comes_into_the_next_vector = refl
 -- Node 1, a member, stops in slot 5, starts again and takes part since slot 26. It counts as failed
 -- at node 0, so cycle 1 starts without it in slot 42. Its JOIN is carried in slot 48: node 0 still
 -- has it in its view, so the JOIN has no effect, and node 1 is in no vector of cycle 1 or of
--- cycle 2.
--- Once cycle 1 has ended it knows that it is outside.
+-- cycle 2. Once cycle 1 has ended it knows that it is outside.
 unfoldable asks_too_early : ScenarioParts
 asks_too_early = joining 104 42 (set 3) (again 47 1 ∷ []) (slot_rule 5 Clean 2 ∷ []) (again 6 1 ∷ [])
 

@@ -96,8 +96,8 @@ pub fn delivery_in_time()
 
 /// Delivery by all or none: of a TOTCAN message whose data frame was carried Clean in a slot c of
 /// such a run, if one incarnation that takes part since c and has read slot c + `bound` has a
-/// delivery of it in its log, each such incarnation has delivered it in a slot from c to c +
-/// `bound`.
+/// delivery of it in its log, each such incarnation has delivered it in a slot from c to
+/// c + `bound`.
 ///
 /// So what a node has delivered that stopped after it read slot c + `bound`, each has delivered
 /// that read this slot too.

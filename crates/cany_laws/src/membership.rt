@@ -8,9 +8,9 @@ ghost use Rattle.cany_model.specs.Runs.Run.{run};
 ghost use Rattle.cany_laws.specs.Detection.{FailedAtStart, HearsNothingOf, IsDetected, IsLeftOut, WasSilentAtStart};
 
 /// Detection: an incarnation that has another node in its view from its turn of slot t on, and
-/// hears no life of it after slot t, counts it as failed after its turn of each slot u ≥ t +
-/// `silence` up to which that goes on, unless it knew the failure sign of the cycle of u by its
-/// turn of t. Where a cycle starts after t and not after u it counts it as failed in any case.
+/// hears no life of it after slot t, counts it as failed after its turn of each slot
+/// u ≥ t + `silence` up to which that goes on, unless it knew the failure sign of the cycle of u by
+/// its turn of t. Where a cycle starts after t and not after u it counts it as failed in any case.
 ///
 /// It is said of what the incarnation reads, and holds of every journal of a legal scenario, with
 /// restarts, and under any faults. A sign counts once in a cycle, so a node that was found,

@@ -33,8 +33,8 @@ pub(crate) struct Protocols {
     pub(crate) others: AllButEdcan,
 }
 
-/// What is kept of the site, and RELCAN, of such a node as `build_protocols` says.
-fn build_site_and_relcan(
+/// The membership and RELCAN of such a node as `build_protocols` says.
+fn build_membership_and_relcan(
     alloc: Global,
     node: NodeId,
     scenario: &Scenario,
@@ -57,7 +57,7 @@ fn build_all_but_edcan(
     ensures { IfOk result (AreAllButEdcanAtRest scenario.now node) }
 {
     let totcan = Totcan::build(alloc, node, scenario)?;
-    let others = build_site_and_relcan(alloc, node, scenario)?;
+    let others = build_membership_and_relcan(alloc, node, scenario)?;
     Ok(AllButEdcan { totcan, others })
 }
 

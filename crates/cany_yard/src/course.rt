@@ -5,8 +5,8 @@ use std::sync::ledger::Ledger;
 
 /// The name of a ledger of turns, which tells the scenario that these are turns of.
 ///
-/// A caller makes two blanks and works the yard in a function over two names, `L: Course` and `B:
-/// Ledger`, which it calls with `Brand` for both.
+/// A caller makes two blanks and works the yard in a function over two names, `L: Course` and
+/// `B: Ledger`, which it calls with `Brand` for both.
 pub trait Course: Ledger {
     ghost use Rattle.cany_base.specs.Scenario.{ScenarioParts};
 
