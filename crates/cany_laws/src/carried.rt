@@ -15,8 +15,8 @@ ghost use Rattle.cany_laws.specs.Requests.{CarriesFewRequests};
 /// Frames of a TOTCAN message: in every run of at most 64 nodes in which no Silent slot carried a
 /// frame, the bus carries the data frame of a TOTCAN message Clean at most once in the whole run,
 /// and the frame that accepts the message at most as often as there are nodes, and at most
-/// `lag` + 2 times: nodes that wait with one frame send it in one slot. Where `omit` is 0 the origin
-/// alone sends that frame, and it is carried Clean at most once. Of the other frames it says
+/// `lag` + 2 times: nodes that wait with one frame send it in one slot. Where `omit` is 0 the
+/// origin alone sends that frame, and it is carried Clean at most once. Of the other frames it says
 /// nothing.
 ///
 /// It holds of every journal, with restarts too, whatever the other omissions and the errors, and
