@@ -7,7 +7,7 @@ from words import code_of
 HEAD = ["call", "answer, and when", "clauses", "shown by"]
 
 # The types of answers that stand for more than a value: what is refused, what is not there, what was chosen.
-TELLS = r"\b(Result<|Option<|bool\b|Outcome\b|StepReply\b|TurnReply\b|Learnt\b)"
+TELLS = r"\b(Result<|Option<|bool\b|Outcome\b|Reply\b|StepReply\b|TurnReply\b|Learnt\b)"
 # The crates whose u8 is an exit status.
 OF_STATUSES = ("cany_check", "cany_command", "cany_crew", "cany_media", "cany_replay", "cany_replica", "cany_settle", "cany_watch")
 
