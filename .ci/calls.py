@@ -26,14 +26,14 @@ WRONG_ARGUMENTS = [
     (["Replay"], f"unknown command 'Replay'; {SEE_HELP}"),
     (["two lines\n"], f"unknown command; {SEE_HELP}"),
     (["x" * 41], f"unknown command; {SEE_HELP}"),
-    (["replay", "scenario.toml"], f"replay takes no arguments; {SEE_HELP}"),
-    (["check", "now"], f"check takes no arguments; {SEE_HELP}"),
+    *(([command, "scenario.toml"], f"{command} reads the scenario from standard input: canely {command} < scenario.toml") for command in ("replay", "check", "run", "replica", "tail")),
+    (["check", "two words"], "check reads the scenario from standard input: canely check < FILE"),
+    (["check", "a.toml", "b.toml"], f"check takes no arguments; {SEE_HELP}"),
     (["Check"], f"unknown command 'Check'; {SEE_HELP}"),
-    (["run", "now"], f"run takes no arguments; {SEE_HELP}"),
-    (["replica", "now"], f"replica takes no arguments; {SEE_HELP}"),
-    (["tail", "now"], f"tail takes no arguments; {SEE_HELP}"),
     (["--help", "--version"], f"--help takes no arguments; {SEE_HELP}"),
     (["--version", "--help"], f"--version takes no arguments; {SEE_HELP}"),
+    (["-h", "check"], f"-h takes no arguments; {SEE_HELP}"),
+    (["help", "check"], f"help takes no arguments; {SEE_HELP}"),
     (["storm"], f"storm needs a number; {SEE_HELP}"),
     (["storm", "1", "2"], f"storm takes one number alone; {SEE_HELP}"),
     (["storm", "x"], "invalid number 'x': storm takes 1 to 10 digits, at most 4294967295"),
@@ -84,9 +84,13 @@ def check_streams(tally, program, scenario):
 
 
 def check_texts(tally, program):
-    check_call(tally, "canely --version", programs.call(program, ["--version"]), 0, b"canely 1\n", "")
+    check_call(tally, "canely --version", programs.call(program, ["--version"]), 0, None, "")
+    version = programs.call(program, ["--version"])[1].decode()
+    tally.check(re.fullmatch(r"canely 1\ncommit (unknown|[0-9a-f]{40}( with changes)?)\nlogic (unproved|[0-9a-f]+)\n", version), f"canely --version writes {version!r}")
     found = programs.call(program, ["--help"])
     check_call(tally, "canely --help", found, 0, None, "")
+    for word in ("-h", "help"):
+        check_call(tally, f"canely {word}", programs.call(program, [word]), 0, found[1], "")
     text = found[1].decode()
     for command in ("replay", "check", "run", "replica", "tail", "media", "watch NODE", "storm NUMBER", "--help", "--version"):
         tally.check(f" canely {command}" in text, f"canely --help does not show the command {command}")

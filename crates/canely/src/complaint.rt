@@ -69,6 +69,18 @@ fn of_one(alloc: Global, takes: &TakesOne, rest: &[String]) -> Result<String, Al
     }
 }
 
+/// What is wrong with the arguments after a command that takes none: one may be the file that was to
+/// be read.
+fn of_reader(alloc: Global, command: &str, rest: &[String]) -> Result<String, AllocError> {
+    match rest {
+        [file] => {
+            let shown = if is_plain(file.as_str()) { file.as_str() } else { "FILE" };
+            format!(in alloc; "canely: {command} reads the scenario from standard input: canely {command} < {shown}\n")
+        }
+        _ => format!(in alloc; "canely: {command} takes no arguments; see canely --help\n"),
+    }
+}
+
 /// What the arguments after `media` have to be.
 const OF_MEDIA: &str =
     "canely: media takes faults of lines, as 0:5-9:down or 1:5-9:split:0,2; see canely --help\n";
@@ -81,7 +93,8 @@ fn of_args(alloc: Global, args: &[String]) -> Result<String, AllocError> {
             "storm" => of_one(alloc, &STORM, rest),
             "media" => String::from_str(alloc, OF_MEDIA),
             "watch" => of_one(alloc, &WATCH, rest),
-            "replay" | "check" | "run" | "replica" | "tail" | "--help" | "--version" => {
+            "replay" | "check" | "run" | "replica" | "tail" => of_reader(alloc, arg.as_str(), rest),
+            "--help" | "-h" | "help" | "--version" => {
                 format!(in alloc; "canely: {arg} takes no arguments; see canely --help\n")
             }
             _ => of_command(alloc, arg.as_str()),

@@ -4,6 +4,7 @@
 
 mod complaint;
 mod help;
+mod version;
 
 use cany_check::check_top;
 use cany_command::status::{DONE, NO_MEMORY, OTHER_WORDS, WRITE_FAULT};
@@ -23,8 +24,6 @@ use std::{env, io};
 
 /// How many bytes of output are kept until they go to standard output together.
 const BUFFER_BYTES: usize = 65536;
-
-const VERSION: &str = "canely 1\n";
 
 /// Why there are no arguments to look at.
 #[derive(Clone, Copy, Debug, PartialEq, Eq)]
@@ -57,11 +56,14 @@ fn args_of(rt: &HostRuntime) -> Result<Vec<String>, ArgsFault> {
     Ok(args.collect(rt.alloc())?)
 }
 
-/// The text that the arguments ask for, where they are `--help` or `--version` alone.
+/// The text that the arguments ask for, where they are one word for the help or for the version.
 fn text_for(alloc: Global, args: &[String]) -> Result<Option<String>, AllocError> {
     match args {
-        [arg] if arg.as_str() == "--help" => Ok(Some(help::help(alloc)?)),
-        [arg] if arg.as_str() == "--version" => Ok(Some(String::from_str(alloc, VERSION)?)),
+        [arg] => match arg.as_str() {
+            "--help" | "-h" | "help" => Ok(Some(help::help(alloc)?)),
+            "--version" => Ok(Some(version::version(alloc)?)),
+            _ => Ok(None),
+        },
         _ => Ok(None),
     }
 }
