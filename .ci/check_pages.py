@@ -10,8 +10,8 @@ from pathlib import Path
 sys.dont_write_bytecode = True
 ROOT = Path(__file__).resolve().parent.parent
 
-import answers
 import calls
+import catalogue
 import comments
 import counts
 import examples
@@ -36,7 +36,7 @@ def main():
         "words and links": lambda: words.check(ROOT, tally),
         "examples": lambda: examples.check(ROOT, tally, built),
         "counts": lambda: counts.check(ROOT, tally),
-        "answers": lambda: answers.check(ROOT, tally),
+        "catalogue": lambda: catalogue.check(ROOT, tally),
         "comments": lambda: comments.check(ROOT, tally),
     }
     for subject, check in subjects.items():

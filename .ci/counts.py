@@ -1,4 +1,4 @@
-"""The counts of lines in docs/architecture.md, and the table of milliseconds in README.md."""
+"""The counts of lines in docs/architecture.md, and the tables of milliseconds in README.md and docs/times.md."""
 import re
 from decimal import ROUND_HALF_UP, Decimal
 
@@ -110,31 +110,40 @@ class Counts:
         self.tally.check((number(said) if said else 0) == lines, f"docs/architecture.md, folders: {name} has {lines:,} lines, and not {said or 'none'}")
 
 
-# The bits of a slot, the bits in a millisecond at 500 kbit/s, and the parameters of the table.
+# The bits of a slot, the bits in a millisecond at 500 kbit/s, and the parameters of the tables.
 SLOT_BITS, BITS_A_MS, LAG, ERRORS = 180, 500, 0, 2
-TIMES_HEAD = ["nodes", "bound", "bound, ms", "cycle, ms", "detect, ms", "remove, ms", "restart to view, ms"]
+# The columns that a table of times may have.
+TIMES = {
+    "nodes": lambda it: it["nodes"],
+    "bound, slots": lambda it: it["bound"],
+    "accepted, ms": lambda it: milliseconds(it["bound"] + LAG),
+    "cycle, ms": lambda it: milliseconds(it["cycle"]),
+    "known as failed, ms": lambda it: milliseconds(it["silence"] + LAG),
+    "out of the views, ms": lambda it: milliseconds(it["silence"] + it["cycle"] + it["bound"] + LAG),
+    "in the views after JOIN, ms": lambda it: milliseconds(it["cycle"] + it["bound"] + LAG),
+}
 
 
-def times(nodes):
-    """A row of the table of milliseconds, by the formulas of cany_base/specs/Params with the least values."""
+def milliseconds(slots):
+    return int((Decimal(slots * SLOT_BITS) / BITS_A_MS).to_integral_value(ROUND_HALF_UP))
+
+
+def least_parameters(nodes):
+    """The least parameters for so many nodes, by the formulas of cany_base/specs/Params."""
     top_frames = 3 * nodes * nodes + 2 * nodes
     bound = 1 + top_frames + ERRORS + LAG * (top_frames + ERRORS + nodes + 1)
-    cycle = 2 * bound + 2 * LAG
     life = bound + LAG
-    silence = life + LAG + bound + 1
-    # a node that starts again takes part after bound + lag + 1 slots; its JOIN is in the view of the next cycle
-    slots = [bound, cycle, silence + LAG, silence + cycle + bound, bound + LAG + 1 + cycle + bound]
-    whole = lambda it: int((Decimal(it * SLOT_BITS) / BITS_A_MS).to_integral_value(ROUND_HALF_UP))
-    return [nodes, bound, *map(whole, slots)]
+    return {"nodes": nodes, "bound": bound, "cycle": 2 * bound + 2 * LAG, "silence": life + LAG + bound + 1}
 
 
-def check_times(page, tally):
-    rows = next((rows for head, rows in tables(page) if head == TIMES_HEAD), [])
-    tally.check(rows, f"README.md has no table | {' | '.join(TIMES_HEAD)} |")
-    for cells in rows:
-        nodes = number(cells[0])
-        wanted = times(nodes) if nodes else []
-        tally.check([number(it) for it in cells] == wanted, f"README.md, milliseconds: the row of {cells[0]} nodes is {cells[1:]}, and not {wanted[1:]}")
+def check_times(name, page, tally):
+    found = [(head, rows) for head, rows in tables(page) if head[0] == "nodes" and set(head) <= set(TIMES)]
+    tally.check(found, f"{name} has no table of times, with columns of {', '.join(TIMES)}")
+    for head, rows in found:
+        for cells in rows:
+            nodes = number(cells[0])
+            wanted = [TIMES[it](least_parameters(nodes)) for it in head] if nodes else []
+            tally.check([number(it) for it in cells] == wanted, f"{name}, times: the row of {cells[0]} nodes is {cells[1:]}, and not {wanted[1:]}")
 
 
 def check(root, tally):
@@ -143,4 +152,5 @@ def check(root, tally):
     counts.safety(page, counts.believed(page))
     counts.listed(page)
     counts.folders(page)
-    check_times((root / "README.md").read_text(encoding="utf-8"), tally)
+    for name in ("README.md", "docs/times.md"):
+        check_times(name, (root / name).read_text(encoding="utf-8"), tally)
