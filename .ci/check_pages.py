@@ -19,6 +19,7 @@ import program as programs
 import refusals
 import scenarios
 import stops
+import variants
 import words
 from tally import Tally
 
@@ -37,6 +38,7 @@ def main():
         "examples": lambda: examples.check(ROOT, tally, built),
         "counts": lambda: counts.check(ROOT, tally),
         "catalogue": lambda: catalogue.check(ROOT, tally),
+        "variants": lambda: variants.check(ROOT, tally),
         "comments": lambda: comments.check(ROOT, tally),
     }
     for subject, check in subjects.items():
