@@ -71,7 +71,7 @@ def command_of(scenario):
     words = scenario.with_suffix(".args")
     if words.exists():
         return words.read_text(encoding="utf-8").split()[0]
-    return "check" if scenario.stem.startswith("verdict_") else "replay"
+    return "replay"
 
 
 class Shown:

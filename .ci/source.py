@@ -68,21 +68,24 @@ class Function:
 
 def end_of(lines, at, indent):
     """The place of the line that ends the function which begins at a line, and that of the line at which its body begins."""
-    start = None
+    start, depth = None, 0
     for place in range(at, len(lines)):
         line = lines[place]
         if start is None:
-            if line.rstrip().endswith(";") and "{" not in line.split("//")[0] or line.rstrip().endswith("};"):
-                return place, place + 1
             if line == f"{indent}{{}}":
                 return place, place
-            if line == f"{indent}{{" or re.match(r".*\S \{$", line) and not re.match(r"\s*(requires|ensures)\b", line) and CLAUSE.match(line) is None:
+            # braces of clauses are closed before the body begins, or before the end of a call without one
+            opened = depth + line.count("{") - line.count("}")
+            if depth == 0 and opened == 1 and line.endswith("{"):
                 start = place
-        if start is not None and (line == f"{indent}}}" or place == start and line.endswith("}")):
+            elif opened == 0 and line.endswith(";"):
+                return place, place + 1
+            elif depth == 0 and opened == 0 and line.endswith("}") and not re.match(r"\s*(requires|ensures)\b", line) and CLAUSE.search(line) is None:
+                return place, place
+            depth = opened
+        if start is not None and line == f"{indent}}}":
             return place, start
-        if start is None and re.match(rf"{indent}.*\{{.*\}}$", line) and not re.match(r"\s*(requires|ensures)\b", line) and place == at:
-            return place, place
-    return len(lines) - 1, start or at
+    return len(lines) - 1, at if start is None else start
 
 
 def functions_in(file, crate):
