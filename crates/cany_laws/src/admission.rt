@@ -13,12 +13,11 @@ ghost use Rattle.cany_laws.specs.Admission.{IsOutsideAtEach, IsAdmittedByEach, J
 /// only since after the start of the cycle before, the vector that has the node may be one that it
 /// does not install.
 ///
-/// Promise: in a run within the hypothesis of a legal scenario, let a JOIN be carried Clean between
-/// the starts of cycles k − 1 and k, its asker outside the views (`JoinIsCarried`,
-/// `IsOutsideAtEach`). An incarnation that takes part since the first start and installs a vector
-/// in cycle k has the asker in it or, for k > 1, in its vector of cycle k − 1. One that takes part
-/// only since later has it too or, for k > 1, some incarnation had it in cycle k − 1
-/// (`IsAdmittedByEach`).
+/// Promise: in a run within the hypothesis of a legal scenario, let a JOIN be carried Clean after
+/// the start of cycle k − 1 and by that of k, its asker outside the views (`IsOutsideAtEach`). An
+/// incarnation that takes part since the first start and installs a vector in cycle k has the asker
+/// in it or, for k > 1, in its vector of cycle k − 1. One that takes part only since later has it
+/// too or, for k > 1, some incarnation had it in cycle k − 1 (`IsAdmittedByEach`).
 ///
 /// Shown by: rows AdmissionRows of cany_law_rows.
 pub fn admission()

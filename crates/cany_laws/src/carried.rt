@@ -20,8 +20,8 @@ ghost use Rattle.cany_laws.specs.Requests.{CarriesFewRequests};
 /// asks for no formula of the parameters.
 ///
 /// Promise: let a run of at most 64 nodes have no Silent slot that carried a frame. The data frame
-/// of a TOTCAN message is carried Clean at most once. The frame that accepts it is at most as often
-/// as there are nodes, and at most `lag` + 2 times; where `omit` is 0, once at most
+/// of a TOTCAN message is carried Clean at most once. The frame that accepts it is carried so at
+/// most as often as there are nodes, and at most `lag` + 2 times; where `omit` is 0, at most once
 /// (`CarriesFewOf`).
 ///
 /// Shown by: `lag_and_one_frames_accept_a_message`; rows CarriedRows of cany_law_rows.

@@ -19,8 +19,8 @@ ghost use Rattle.cany_laws.specs.Waits.{HasAskedBy, HasDeliveredBy, IsAwaitedThr
 ///
 /// Promise: in a run within the hypothesis of a legal scenario, let running nodes wait with a frame
 /// of one identity in n consecutive slots that do not carry it Clean. Let some number of windows
-/// have n slots or more. Then n is at most `most_taken` times this number, and the count of these
-/// slots that carry Clean a frame that wins over it, of the classes FDA to ED.
+/// have n slots or more. Then n is at most `most_taken` times this number, plus how many of these
+/// slots carry Clean a frame that wins over it, of the classes FDA to ED.
 ///
 /// Shown by: `errors_take_no_slot`; rows WaitRows of cany_law_rows.
 pub fn few_slots_of_waiting()
