@@ -165,7 +165,7 @@ pub fn shows_life(class: Class) -> bool
     by_class!(life of class)
 }
 
-/// Whether a frame of the class tells of the site: who lives, has failed, or asks to join or to
+/// Whether a frame of the class tells of the site: of a life, a failure, an ask to join or to
 /// leave, or a vector. The data of TOTCAN does, since it shows that its node lives.
 ///
 /// Promise: whether the table of classes says so of the class.

@@ -329,10 +329,10 @@ pub fn removal()
 
 /// A node whose ask to join gets through is admitted.
 ///
-/// Promise: in a run within the hypothesis of a legal scenario without restart entries, let a JOIN
-/// be carried Clean after the start of one cycle and by that of the next, its asker in no correct
-/// node's view (`JoinWasCarried`). A correct node that installs a vector in the next has the asker
-/// in it or, unless this is cycle 1, in the one that it installed in the cycle before
+/// Promise: take a run within the hypothesis of a legal scenario without restart entries. Let a
+/// JOIN be carried Clean after the start of one cycle and by that of the next, its asker in no
+/// correct node's view (`JoinWasCarried`). A correct node that installs a vector in the next has
+/// the asker in it or, unless this is cycle 1, in the one that it installed in the cycle before
 /// (`IsAdmitted`).
 ///
 /// Shown by: rows DetectorAdmissionRows of cany_rows.
