@@ -19,6 +19,16 @@ pub enum Outcome {
 /// Arbitration over the offers of one slot (CAN Specification 2.0 Part B, basic concepts,
 /// "arbitration"). The winner is the offer of the least key, and of equal keys that of the least
 /// node: the one that a bus finds bit by bit (`walk_leaves_least`).
+///
+/// Promise: the outcome is that of arbitration over these offers. The frame of the least key wins,
+/// of equal keys that of the least node, and the senders are exactly the nodes that offer this
+/// frame.
+///
+/// Answers: `Idle` exactly where nobody offers.
+///
+/// Shown by: nothing in the program runs it; its edits show its clauses: `always_idle`,
+/// `an_equal_word_is_left_out`, `another_payload_is_sent_too`, `nodes_above_31_are_not_asked`,
+/// `one_sender_of_a_merged_frame`, `rtr_is_forgotten`.
 pub fn arbitrate(offers: &Offers) -> Outcome
     ensures { IsOutcome offers.now result }
 {

@@ -19,8 +19,13 @@ fn only(node: NodeId) -> NodeSet
 }
 
 impl Outcome {
-    /// Enters what a node offers, after all offers of lesser nodes. So a slot is decided in one
-    /// pass over the nodes, as `arbitrate` decides it over a table of their offers.
+    /// Enters what a node offers, after all offers of lesser nodes. So one pass over the nodes
+    /// decides a slot, as `arbitrate` decides it over a table of their offers.
+    ///
+    /// Promise: let the value be the outcome of arbitration over the offers of lesser nodes. Then
+    /// it is afterwards the outcome over these offers and the one of this node.
+    ///
+    /// Shown by: `a_later_frame_of_an_equal_key_wins`, `two_orders`, `four_messages`.
     // A hint, since the bus makes most of these calls in one place.
     #[inline(always)]
     pub fn enter(&mut self, format: Format, node: NodeId, frame: &Frame)

@@ -1,5 +1,5 @@
 //! Bitwise arbitration: of the frames that nodes offer in one slot, which one the bus carries, and
-//! who sends it.
+//! which nodes send it.
 #![tactic(auto)]
 
 mod arbitration;

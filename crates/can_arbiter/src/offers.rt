@@ -27,7 +27,11 @@ impl Model for Offers {
 }
 
 impl Offers {
-    /// No node offers.
+    /// A table in which no node offers.
+    ///
+    /// Promise: no node offers, in the format that is given.
+    ///
+    /// Shown by: nothing in the program runs it; it has no edit.
     pub fn none(format: Format) -> Offers
         ensures format { result.format ≡ format }
         ensures none { (i : ℕ) → offer_at result i ≡ None }
@@ -39,7 +43,11 @@ impl Offers {
         }
     }
 
-    /// Node `n` offers this frame, in place of what it offered before.
+    /// Enters the frame of node `n`, in place of what it offered before.
+    ///
+    /// Promise: node `n` offers this frame, and what every other node offers stays.
+    ///
+    /// Shown by: nothing in the program runs it; its edit shows its clauses: `first_offer_is_kept`.
     pub fn put(&mut self, n: NodeId, f: Frame)
         requires { FitsFormat self.old.format f }
         ensures format { self.new.format ≡ self.old.format }
@@ -50,6 +58,12 @@ impl Offers {
     }
 
     /// What node `n` offers.
+    ///
+    /// Promise: the frame that the node offers.
+    ///
+    /// Answers: `None` exactly where node `n` offers nothing.
+    ///
+    /// Shown by: nothing in the program runs it; it has no edit.
     pub fn get(&self, n: NodeId) -> Option<Frame>
         ensures { result ≡ offer_at self.now n }
     {

@@ -43,6 +43,15 @@ impl Model for Bus {
 
 impl Bus {
     /// The bus of the scenario before its first slot, with room for all of its slots.
+    ///
+    /// Promise: the bus has the parameters of the scenario, no slot has run, and it follows the
+    /// rules of the scenario (`Follows`).
+    ///
+    /// Shown by: `sixteen_lost_slots`.
+    ///
+    /// # Errors
+    ///
+    /// `Memory`: out of memory.
     pub fn build(alloc: Global, scenario: &Scenario) -> Result<Bus, Memory>
         ensures params { IfOk result (λ bus. bus.params ≡ scenario.now.params) }
         ensures trace { IfOk result (λ bus. bus.trace ≡ []) }
@@ -60,10 +69,22 @@ impl Bus {
         })
     }
 
-    /// Runs the next slot: the running controllers compete, the script says what comes of it, each
-    /// running controller sees its share, and those stop that the script names or that have a
-    /// counter above the limit. `script` is the one that ruled the slots before, that of the
-    /// scenario's rules.
+    /// Runs the next slot. The running controllers compete, the script says what comes of it, and
+    /// each running controller sees its share. Those stop that the script names, or that have a
+    /// counter above the limit.
+    ///
+    /// `script` is the one that ruled the slots before, that of the scenario's rules.
+    ///
+    /// Promise: let the controllers, one of each node, stand for the nodes of a run, and let none
+    /// that runs have more than `lag` unread notices. Then the note is that of the definition
+    /// (`slot_note_of`), and is appended to the trace. Each running controller is then the node
+    /// after the slot: it has seen its share, and has stopped where the note says so.
+    ///
+    /// Shown by: `edcan_sender_stops_after_partial`, `sixteen_lost_slots`, `a_notice_is_lost`,
+    /// `a_sender_at_an_error_is_confirmed`, `a_stop_by_a_counter_is_missing`,
+    /// `a_stopped_controller_competes`, `an_idle_slot_has_the_verdict`,
+    /// `takers_of_partial_swapped`, `the_attempt_is_counted_after_the_verdict`,
+    /// `the_tally_does_not_note`.
     pub fn slot(&mut self, controllers: &mut [Controller], script: &Script) -> SlotNote
         requires each_node { AreControllersFor self.old.params controllers.old }
         requires reading { NoneLags self.old.params.lag controllers.old }
@@ -90,7 +111,10 @@ impl Bus {
         note
     }
 
-    /// Runs so many slots in which no controller offers a frame and none stops.
+    /// Runs a number of slots at once, in which no controller offers a frame and none stops.
+    ///
+    /// Promise: this many idle slots are appended to the trace. The parameters stay, and a bus that
+    /// followed some rules follows them still.
     pub fn rest(&mut self, slots: u64)
         requires { length self.old.trace + slots ≤ self.old.params.slots }
         ensures trace { self.new.trace ≡ idle_trace slots self.old.trace }
@@ -104,6 +128,8 @@ impl Bus {
     }
 
     /// The notes of the slots that ran, oldest first.
+    ///
+    /// Promise: the notes of the slots that ran, oldest first.
     pub fn trace(&self) -> &[SlotNote]
         ensures { result.now ≡ reverse self.now.trace }
     {
@@ -111,6 +137,13 @@ impl Bus {
     }
 
     /// The first slot at which the run leaves the fault hypothesis.
+    ///
+    /// Promise: the first break of the trace by the definition (`first_break`), with its kind and
+    /// its slot.
+    ///
+    /// Answers: `None` exactly where the slots so far are within the fault hypothesis.
+    ///
+    /// Shown by: `one_message_no_fault`, `sixteen_lost_slots`.
     pub fn first_break(&self) -> Option<Break>
         ensures first { result ≡ first_break self.now.params self.now.trace }
         ensures within { (result ≡ None) ↔ IsWithin self.now.params self.now.trace }
@@ -129,7 +162,7 @@ fn first_attempts(alloc: Global, scenario: &Scenario) -> Result<Attempts, Memory
     Attempts::build(alloc, &script)
 }
 
-/// Appends the notes of so many idle slots.
+/// Appends the notes of this number of idle slots.
 fn push_idle(trace: &mut BoundedVec<SlotNote>, slots: u64)
     requires { length trace.old.items + slots ≤ trace.old.room }
     ensures items { reverse trace.new.items ≡ idle_trace slots (reverse trace.old.items) }

@@ -47,8 +47,17 @@ impl Model for Controller {
 }
 
 impl Controller {
-    /// A running controller of the node, with room for so many waiting frames and for one unread
+    /// A running controller of the node, with room for `room` waiting frames and for one unread
     /// notice more than the lag.
+    ///
+    /// Promise: it is of this node, with these parameters and this room. Nothing waits, nothing is
+    /// unread, its counters are zero, and slot 0 is the next to read.
+    ///
+    /// Shown by: `four_messages`.
+    ///
+    /// # Errors
+    ///
+    /// `Memory`: out of memory.
     pub fn build(
         alloc: Global,
         node: NodeId,
@@ -74,6 +83,11 @@ impl Controller {
     }
 
     /// Puts the frame among the waiting frames, in place of one of its identity.
+    ///
+    /// Promise: the waiting frames are those of before with this one in its place (`with_frame`),
+    /// and nothing else changes.
+    ///
+    /// Shown by: `ask_adds_a_frame_of_another_incarnation`, `four_messages`.
     pub fn ask(&mut self, frame: Frame)
         requires fits { FitsFormat self.old.params.format frame }
         requires room { HasRoomFor frame self.old.waiting self.old.room }
@@ -83,6 +97,12 @@ impl Controller {
     }
 
     /// Takes the frame of this identifier from the waiting frames, if one waits.
+    ///
+    /// Promise: exactly the frames of this identifier leave the waiting frames, and nothing else
+    /// changes. If the identifier is that of a frame whose class tells no incarnation, those are
+    /// the frames of its identity.
+    ///
+    /// Shown by: `copies_read_in_a_row`.
     pub fn withdraw(&mut self, ident: u32)
         ensures by_identifier { let others = filter (λ f. not (identifier_of self.old.params.format f == ident)) self.old.waiting in
             self.new ≡ record self.old { waiting = others } }
@@ -96,6 +116,13 @@ impl Controller {
     }
 
     /// Whether a frame of this identifier waits.
+    ///
+    /// Promise: whether one of the waiting frames has this identifier. If it is that of a frame
+    /// whose class tells no incarnation, whether a frame of its identity waits.
+    ///
+    /// Answers: `true` exactly where a frame of this identifier waits.
+    ///
+    /// Shown by: `restart_before_any_life_sign`.
     pub fn waits(&self, ident: u32) -> bool
         ensures by_identifier { result ≡ list_any (λ f. identifier_of self.now.params.format f == ident) self.now.waiting }
 
@@ -108,6 +135,8 @@ impl Controller {
     }
 
     /// How many frames more may wait.
+    ///
+    /// Promise: the room less the number of waiting frames.
     pub fn spare(&self) -> usize
         ensures { result + length self.now.waiting ≡ self.now.room }
     {
@@ -116,6 +145,13 @@ impl Controller {
 
     /// The waiting frame that wins over the others, which is the one that the controller offers in
     /// a slot.
+    ///
+    /// Promise: the waiting frame of the least key, which is the first of the list. Each other
+    /// waiting frame has a greater key.
+    ///
+    /// Answers: `None` exactly where nothing waits.
+    ///
+    /// Shown by: `four_messages`, `the_best_frame_is_the_greatest`.
     pub fn best(&self) -> Option<Frame>
         ensures none { IsNone result ↔ (self.now.waiting ≡ []) }
         ensures head { result ≡ slice_get self.now.waiting 0 }
@@ -131,6 +167,13 @@ impl Controller {
 
     /// What the controller did in a slot: it gets the notice, its counters change, a frame sent
     /// with success waits no longer, and where a counter exceeds the limit it stops.
+    ///
+    /// Promise: the counters, the waiting frames and the unread notices change as the slot rule
+    /// says of this share (`seen`). The controller stops at the slot exactly where a counter then
+    /// exceeds 127.
+    ///
+    /// Shown by: `sixteen_lost_slots`, `a_counter_wraps_below_zero`, `a_notice_is_lost`,
+    /// `counters_never_stop_a_controller`.
     // A hint, since a run makes most of these calls in one place.
     #[inline(always)]
     pub fn see(&mut self, slot: Slot, share: Share)
@@ -148,6 +191,12 @@ impl Controller {
     }
 
     /// What `see` does where the controller took the frame that the notice brings.
+    ///
+    /// Promise: the receive counter is one less, but not below 0, and the notice is the last unread
+    /// one. Where the notice tells that a frame was got, this is what `see` does for the share
+    /// `Took`.
+    ///
+    /// Shown by: `one_message_no_fault`.
     // A hint, since a run makes most of these calls in one place. So is that of the next.
     #[inline(always)]
     pub fn see_taken(&mut self, notice: &Notice)
@@ -163,6 +212,11 @@ impl Controller {
     }
 
     /// What `see` does where the controller sent the frame with success, as the notice says.
+    ///
+    /// Promise: the controller is changed as `see` changes it for the share `Confirmed` of this
+    /// frame.
+    ///
+    /// Shown by: `one_message_no_fault`, `a_confirmed_frame_still_waits`.
     #[inline(always)]
     pub fn see_sent(&mut self, frame: &Frame, notice: &Notice)
         requires running { self.old.stopped ≡ None }
@@ -176,6 +230,11 @@ impl Controller {
     }
 
     /// The controller stops at the end of the slot. One that has stopped stays as it is.
+    ///
+    /// Promise: a running controller has stopped at the slot, and one that has stopped stays as it
+    /// is.
+    ///
+    /// Shown by: `edcan_sender_stops_after_partial`.
     pub fn stop(&mut self, slot: Slot)
         ensures { self.new ≡ stopped_at slot self.old }
     {
@@ -187,6 +246,11 @@ impl Controller {
     /// The controller starts again at the end of the slot, after its stop in this slot or an
     /// earlier one. It then runs, nothing waits, nothing is unread, its counters are zero, and the
     /// next slot is the next to read. It takes no memory.
+    ///
+    /// Promise: the controller runs, nothing waits, nothing is unread, its counters are zero, and
+    /// the slot after this one is the next to read. Its node, parameters and room stay.
+    ///
+    /// Shown by: `restart_hears_again`, `a_restart_keeps_the_counters`.
     pub fn restart(&mut self, slot: Slot)
         requires { HasStoppedBy slot self.old }
         ensures { self.new ≡ restarted_at slot self.old }
@@ -199,14 +263,27 @@ impl Controller {
     }
 
     /// The slot at which the controller stopped, if it has not started again since.
+    ///
+    /// Promise: the slot of its stop.
+    ///
+    /// Answers: `None` exactly where the controller runs.
+    ///
+    /// Shown by: `sixteen_lost_slots`, `restart_hears_again`.
     pub fn stopped(&self) -> Option<Slot>
         ensures { result ≡ self.now.stopped }
     {
         self.stopped
     }
 
-    /// The oldest unread notice, which is then read. What `read` gives stays at the greatest `u64`
-    /// once it is there.
+    /// The oldest unread notice, which counts as read from then on. The number of the next slot to
+    /// read stays at the greatest `u64` once it is there.
+    ///
+    /// Promise: the oldest unread notice leaves the unread ones, and the next slot to read is one
+    /// more. Where nothing is unread nothing changes.
+    ///
+    /// Answers: `None` exactly where all notices were read.
+    ///
+    /// Shown by: `one_node_reads_as_late_as_is_legal`.
     pub fn next_notice(&mut self) -> Option<Notice>
         ensures all_read { IsNone result ↔ (self.old.unread ≡ []) }
         ensures oldest { result ≡ slice_get self.old.unread 0 }
@@ -220,6 +297,8 @@ impl Controller {
     }
 
     /// How many notices are unread.
+    ///
+    /// Promise: the number of unread notices, which is at most `lag` + 1.
     pub fn unread(&self) -> u32
         ensures count { result ≡ length self.now.unread }
         ensures within { result ≤ self.now.params.lag + 1 }
@@ -227,9 +306,14 @@ impl Controller {
         self.notices.len() as u32
     }
 
-    /// Whether the controller waits with nothing and its node has read every notice. If it runs
-    /// too, a slot in which nobody offers a frame changes nothing of it but that one notice more is
-    /// to be read.
+    /// Whether no frame waits and every notice was read. If the controller runs too, a slot in
+    /// which nobody offers a frame changes nothing of it but that one notice more is to be read.
+    ///
+    /// Promise: whether no frame waits and no notice is unread.
+    ///
+    /// Answers: `true` exactly where no frame waits and no notice is unread.
+    ///
+    /// Shown by: `one_node_reads_as_late_as_is_legal`, `nothing_to_do_is_never_found`.
     pub fn has_nothing_to_do(&self) -> bool
         ensures waiting { result ≡ true → self.now.waiting ≡ [] }
         ensures unread { result ≡ true → self.now.unread ≡ [] }
@@ -238,7 +322,9 @@ impl Controller {
         self.waiting.is_empty() && self.notices.is_empty()
     }
 
-    /// So many slots pass in which nobody offers a frame, and their notices are read.
+    /// Passes over a number of slots in which nobody offers a frame, and whose notices are read.
+    ///
+    /// Promise: the next slot to read is this many later, and nothing else changes.
     pub fn rest(&mut self, slots: u64)
         requires { self.old.read + slots ≤ u64.MAX }
         ensures { self.new ≡ record self.old { read = self.old.read + slots } }
@@ -248,6 +334,8 @@ impl Controller {
 
     /// The next slot to read. Of a controller that has never started again this is how many notices
     /// were read; a restart passes over the slots that are unread when it comes.
+    ///
+    /// Promise: the next slot to read.
     pub fn read(&self) -> u64
         ensures { result ≡ self.now.read }
     {

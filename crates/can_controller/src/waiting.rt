@@ -100,7 +100,7 @@ fn place_of(format: Format, frames: &[Frame], ident: u32) -> Option<usize>
 }
 
 impl Waiting {
-    /// No frame waits, and so many may.
+    /// No frame waits, and `room` of them may.
     pub(crate) fn build(alloc: Global, format: Format, room: usize) -> Result<Waiting, Memory>
         ensures { IfOk result (λ waiting. waiting ≡ record { format = format; frames = []; room = room }) }
     {

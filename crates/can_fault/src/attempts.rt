@@ -32,6 +32,15 @@ impl Model for Attempts {
 
 impl Attempts {
     /// The counts of a run without slots.
+    ///
+    /// Promise: the counts stand for the run without slots, for the rules of the script
+    /// (`AreCountsOf`).
+    ///
+    /// Shown by: `edcan_sender_stops_after_the_first_attempt`.
+    ///
+    /// # Errors
+    ///
+    /// `Memory`: out of memory.
     pub fn build(alloc: Global, script: &Script) -> Result<Attempts, Memory>
         ensures { IfOk result (AreCountsOf script.now []) }
     {
@@ -46,6 +55,12 @@ impl Attempts {
     /// no rule names the number is 0.
     ///
     /// A count stands still at the end of its type, which no run of a scenario reaches.
+    ///
+    /// Promise: of counts that stand for a run, the number is one more than the slots of the run
+    /// that carried the frame, and 0 for a frame that no rule names. A number stands still at
+    /// 4,294,967,295. The counts then stand for the run with one slot more that carries the frame.
+    ///
+    /// Shown by: `edcan_sender_stops_after_the_first_attempt`, `attempt_off_by_one`.
     pub fn count(&mut self, frame: &Frame) -> u32
         ensures number { (rules : List Rule) (trace : List SlotNote) → AreCountsOf rules trace self.old
             → result ≡ min (next_attempt rules trace frame.now) greatest }

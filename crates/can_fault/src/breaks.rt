@@ -21,7 +21,7 @@ pub(crate) struct Breaks {
 impl Breaks {
     ghost use Rattle.can_fault.specs.Breaks.{IsKeptOf, HasLimitsOf};
 
-    /// Nothing noted, with room for so many Partial slots.
+    /// Nothing noted, with room for one Partial slot of each rule.
     pub(crate) fn build(alloc: Global, params: &Params, rules: usize) -> Result<Breaks, Memory>
         ensures kept { IfOk result (IsKeptOf params.now []) }
         ensures counts { IfOk result (λ o. o.counts ≡ record { items = []; room = rules }) }

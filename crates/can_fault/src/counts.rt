@@ -59,7 +59,7 @@ impl PartialCounts {
     ghost use Rattle.can_fault.specs.Counted.{same_counted};
     ghost use Rattle.can_fault.specs.Counts.{partials_of};
 
-    /// No counts, with room for so many.
+    /// No counts, with room for `room` of them.
     pub(crate) fn build(alloc: Global, room: usize) -> Result<PartialCounts, Memory>
         ensures { IfOk result (λ c. c ≡ record { items = []; room = room }) }
     {

@@ -17,7 +17,9 @@ pub struct FrameIdentity {
 impl FrameIdentity {
     ghost use Rattle.can_fault.specs.Identities.{frame_identity};
 
-    /// Of the frame that a rule names.
+    /// The identity of the frame that a rule names.
+    ///
+    /// Promise: it has this class, number and node.
     pub fn new(class: Class, number: u16, node: NodeId) -> FrameIdentity
         ensures { result ≡ record { class = class; number = number; node = node } }
     {
@@ -28,7 +30,10 @@ impl FrameIdentity {
         }
     }
 
-    /// Of a frame that the bus carries. Neither its data nor an incarnation tells it apart.
+    /// The identity of a frame that the bus carries. Neither its data nor its incarnation tells it
+    /// apart.
+    ///
+    /// Promise: it is the identity of the frame: its class, number and node.
     pub fn of(frame: &Frame) -> FrameIdentity
         ensures { result ≡ frame_identity (identity_of frame.now) }
     {

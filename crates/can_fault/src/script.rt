@@ -16,7 +16,7 @@ pub enum ScriptFault {
     /// The rule at `index`, counted from 0, has the place of an earlier one.
     #[error("rule {index} has the place of an earlier rule")]
     Repeated { index: usize },
-    /// Want of memory, which no contract ties to a cause.
+    /// Out of memory, which no contract ties to a cause.
     #[error("out of memory")]
     Memory,
 }
@@ -64,6 +64,16 @@ impl Model for Script {
 
 impl Script {
     /// The script of these rules.
+    ///
+    /// Promise: the script is the list of these rules, whose places are then distinct. `Repeated`
+    /// names the first rule that has the place of an earlier one.
+    ///
+    /// Shown by: `sixteen_lost_slots`, `repeated_place_is_accepted`. No scenario meets `Repeated`,
+    /// since the reader of texts finds it first.
+    ///
+    /// # Errors
+    ///
+    /// `Repeated` only where a rule has the place of an earlier one. `Memory`: out of memory.
     pub fn build(alloc: Global, rules: &[Rule]) -> Result<Script, ScriptFault>
         ensures ok { IfOk result (λ script. script ≡ rules.now) }
         ensures distinct { OnOk result (HaveDistinctPlaces rules.now) }
@@ -80,6 +90,14 @@ impl Script {
     }
 
     /// The script of the scenario's rules, which have distinct places.
+    ///
+    /// Promise: the script is the list of the scenario's rules.
+    ///
+    /// Shown by: `sixteen_lost_slots`.
+    ///
+    /// # Errors
+    ///
+    /// `Memory`: out of memory.
     pub fn of_scenario(alloc: Global, scenario: &Scenario) -> Result<Script, Memory>
         ensures { IfOk result (λ script. script ≡ scenario.now.rules) }
     {
@@ -102,8 +120,14 @@ impl Script {
     /// slot carries, with the number of the attempt to carry it, counted from 1. For a frame that
     /// no rule names any number will do.
     ///
-    /// That a rule for the slot is used alone, though the attempt has one too, is this project's
-    /// own rule.
+    /// Where there is a rule for the slot and one for the attempt, the first is used alone. This is
+    /// the project's own rule.
+    ///
+    /// Promise: the verdict and the stops are those of the rule for the slot, and without one those
+    /// of the rule for the attempt; without both, Clean and no stops. Given the number of slots
+    /// that ran and that of the attempt, they are those of the definition (`script`).
+    ///
+    /// Shown by: `sixteen_lost_slots`, `frame_rule_before_slot_rule`.
     pub fn verdict(&self, slot: Slot, carried: Option<(Frame, u32)>) -> (Verdict, NodeSet)
         ensures ruling { record { verdict = result.0; stop = result.1 } ≡ ruling_of (rule_for self.now slot carried) }
         ensures script { (trace : List SlotNote) → slot ≡ length trace → IsCounted self.now trace carried
@@ -116,6 +140,12 @@ impl Script {
     }
 
     /// Whether there is no rule.
+    ///
+    /// Promise: whether the script has no rule.
+    ///
+    /// Answers: `true` exactly where there is no rule.
+    ///
+    /// Shown by: `.ci/stops.py`.
     pub fn is_empty(&self) -> bool
         ensures { (result ≡ true) ↔ (self.now ≡ []) }
     {
@@ -123,6 +153,12 @@ impl Script {
     }
 
     /// Whether there is a rule for the slot, whatever the slot carries.
+    ///
+    /// Promise: whether a rule names this slot by its number.
+    ///
+    /// Answers: `true` exactly where such a rule is there.
+    ///
+    /// Shown by: `.ci/stops.py`.
     pub fn has_rule(&self, slot: Slot) -> bool
         ensures { result ≡ is_some (slot_rule self.now slot) }
     {

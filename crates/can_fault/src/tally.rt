@@ -38,7 +38,16 @@ impl Model for Tally {
 }
 
 impl Tally {
-    /// The tally of a run without slots, with room for so many Partial slots as there are rules.
+    /// The tally of a run without slots, with room for `rules` Partial slots, as many as there are
+    /// rules.
+    ///
+    /// Promise: the tally stands for the run without slots, with these parameters and this room.
+    ///
+    /// Shown by: `one_message_no_fault`, `hypothesis_always_outside`.
+    ///
+    /// # Errors
+    ///
+    /// `Memory`: out of memory.
     pub fn build(alloc: Global, params: &Params, rules: usize) -> Result<Tally, Memory>
         ensures run { IfOk result (IsTallyOf []) }
         ensures params { IfOk result (λ tally. tally.params ≡ params.now) }
@@ -56,6 +65,12 @@ impl Tally {
     }
 
     /// Notes the next slot.
+    ///
+    /// Promise: a tally that stands for a run stands afterwards for the run with this slot. Its
+    /// parameters and its room stay.
+    ///
+    /// Shown by: `sixteen_lost_slots`, `errors_before_omit_in_one_slot`, `partial_is_no_error`,
+    /// `vectors_counted_apart`, `window_one_slot_too_long`.
     pub fn note(&mut self, note: &SlotNote)
         requires next { note.now.slot ≡ self.old.slots }
         requires room { is_partial_slot note.now ≡ true → self.old.partials < self.old.rules }
@@ -70,7 +85,10 @@ impl Tally {
         self.partials += usize::from(is_partial_slot(note));
     }
 
-    /// Notes slots that carried no frame, of which the last has this number.
+    /// Notes slots that carried no frame all at once. `last` is the number of the last of them.
+    ///
+    /// Promise: a tally that stands for a run stands afterwards for the run with these slots. Its
+    /// parameters and its room stay.
     pub fn rest(&mut self, last: Slot)
         ensures run { (idle trace : List SlotNote) → All (λ note. note.frame ≡ None) idle → IsNumbered (idle ++ trace)
             → length (idle ++ trace) ≡ last + 1 → IsTallyOf trace self.old → IsTallyOf (idle ++ trace) self.new }
@@ -83,6 +101,13 @@ impl Tally {
     }
 
     /// The first slot at which the run leaves the hypothesis.
+    ///
+    /// Promise: of a tally that stands for a run, the first break of the run by the definition
+    /// (`first_break`).
+    ///
+    /// Answers: `None` exactly where the run is within the fault hypothesis.
+    ///
+    /// Shown by: `one_message_no_fault`, `sixteen_lost_slots`.
     pub fn first_break(&self) -> Option<Break>
         ensures first { (trace : List SlotNote) → IsTallyOf trace self.now → result ≡ first_break self.now.params trace }
         ensures within { (trace : List SlotNote) → IsTallyOf trace self.now → (result ≡ None) ↔ IsWithin self.now.params trace }

@@ -7,9 +7,9 @@ ghost use Rattle.can_frame.specs.Identifier.{FitsIdentifier};
 use cany_base::{Class, Format, Payload};
 
 /// Makes a body from the table of the ten classes. A row is a class, its number in the identifier,
-/// the kind of its frames, what their payload has (no bytes, a vector, or any bytes), what the
-/// lowest four bits of their identifier are (the sender's incarnation, or zero), and what they tell
-/// of the site: that the node lives which they name (`life`), something else of it (`site`), or
+/// the kind of its frames, and what their payload has: no bytes, a vector, or any bytes. Then come
+/// the lowest four bits of their identifier: the sender's incarnation, or zero. Last is what they
+/// tell of the site: that the node they name lives (`life`), something else of it (`site`), or
 /// nothing.
 macro_rules! by_class {
     (number of $class:expr) => { by_class!(rows number $class) };
@@ -84,7 +84,14 @@ fn class_of_number(number: u32) -> Option<Class>
     by_class!(class of number)
 }
 
-/// The class that stands in an identifier. Where bits above its 29 are set it is none.
+/// The class that stands in an identifier. Where a bit above the lowest 29 is set there is none.
+///
+/// Promise: the class of the number that stands in the bits above the lowest 25. Of the identifier
+/// of a frame it is the frame's class.
+///
+/// Answers: `None` exactly where this number is above 9.
+///
+/// Shown by: `frames_of_every_class`, `refusals`, `bits_above_the_identifier_are_ignored`.
 pub fn class_of(ident: u32) -> Option<Class>
     ensures class { result ≡ class_in ident }
     ensures none { IsNone result ↔ (9 < ident / 2 ^ 25) }
@@ -98,6 +105,12 @@ pub fn class_of(ident: u32) -> Option<Class>
 }
 
 /// Whether the frames of a class are remote frames, which send RTR recessive and carry no bytes.
+///
+/// Promise: whether the table of classes says that frames of the class are remote frames.
+///
+/// Answers: `true` exactly for ACCEPT, ELS, FDA, JOIN, LEAVE and CONFIRM.
+///
+/// Shown by: `frames_of_every_class`, `failure_sign_is_a_data_frame`.
 pub fn is_remote(class: Class) -> bool
     ensures { result ≡ is_remote class }
 {
@@ -106,6 +119,12 @@ pub fn is_remote(class: Class) -> bool
 
 /// Whether the frames of a class tell the incarnation of their sender, in the lowest four bits of
 /// their identifier.
+///
+/// Promise: whether the table of classes says that frames of the class tell an incarnation.
+///
+/// Answers: `true` exactly for RHA, ELS, JOIN and LEAVE.
+///
+/// Shown by: `frames_of_every_class`.
 pub fn has_incarnation(class: Class) -> bool
     ensures { result ≡ has_incarnation class }
 {
@@ -113,6 +132,13 @@ pub fn has_incarnation(class: Class) -> bool
 }
 
 /// Whether an identifier is of a class whose frames tell the incarnation of their sender.
+///
+/// Promise: whether the class that stands in the identifier is one whose frames tell an
+/// incarnation. Of the identifier of a frame this is as the frame's class has it.
+///
+/// Answers: `true` exactly where the class is RHA, ELS, JOIN or LEAVE.
+///
+/// Shown by: `frames_of_every_class`.
 pub fn tells_incarnation(ident: u32) -> bool
     ensures value { result ≡ tells_incarnation ident }
 
@@ -127,14 +153,26 @@ pub fn tells_incarnation(ident: u32) -> bool
 }
 
 /// Whether a frame of the class shows that the node lives which it names.
+///
+/// Promise: whether the table of classes says that a frame of the class shows life.
+///
+/// Answers: `true` exactly for RHA, ELS and the data of TOTCAN.
+///
+/// Shown by: `stopped_node_is_removed`.
 pub fn shows_life(class: Class) -> bool
     ensures { result ≡ shows_life class }
 {
     by_class!(life of class)
 }
 
-/// Whether a frame of the class tells of the site: who lives, who has failed, who asks to join or
-/// to leave, or a vector. The data of TOTCAN does: it shows that its node lives.
+/// Whether a frame of the class tells of the site: of a life, a failure, an ask to join or to
+/// leave, or a vector. The data of TOTCAN does, since it shows that its node lives.
+///
+/// Promise: whether the table of classes says so of the class.
+///
+/// Answers: `true` exactly for RHA, ELS, FDA, JOIN, LEAVE and the data of TOTCAN.
+///
+/// Shown by: `stopped_node_is_removed`.
 pub fn is_of_site(class: Class) -> bool
     ensures { result ≡ is_of_site class }
 {

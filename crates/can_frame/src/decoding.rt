@@ -22,7 +22,21 @@ pub enum FrameFault {
     Length,
 }
 
-/// The frame of this identifier and payload, remote or not.
+/// The frame of this identifier, kind and payload: what a receiver makes of the bits on a bus.
+///
+/// Promise: it answers a frame exactly where the frame has this identifier, kind and payload, fits
+/// the format, and carries what its class carries there. Otherwise the fault is the first of the
+/// four that holds.
+///
+/// Shown by: `refusals`, `frames_of_every_class`, `low_bits_are_not_tested`,
+/// `kind_comes_before_pad`. Nothing in the program runs it.
+///
+/// # Errors
+///
+/// `Class`: no class has the number in the bits above the lowest 25. `Pad`: the class tells no
+/// incarnation, and the lowest four bits are not 0. `Kind`: the class has frames of the other kind.
+/// `Length`: frames of the class do not carry these bytes in the format. Each comes exactly where
+/// it holds and none before it does.
 pub fn frame_of(
     format: Format,
     ident: u32,

@@ -15,6 +15,11 @@ pub(crate) type ClassField = Field<25, 4>;
 pub(crate) type IncarnationField = Field<0, 4>;
 
 /// The 29-bit identifier of a frame.
+///
+/// Promise: the identifier is that of the table of the format (`identifier_of`), and is below 2^29.
+///
+/// Shown by: `frames_of_every_class`, `identifier_forgets_the_incarnation`,
+/// `node_field_of_the_second_format_one_bit_short`.
 pub fn identifier(format: Format, frame: &Frame) -> u32
     requires { FitsFormat format frame.now }
     ensures value { result ≡ identifier_of format frame.now }
@@ -26,6 +31,8 @@ pub fn identifier(format: Format, frame: &Frame) -> u32
 }
 
 /// The identifier in which no incarnation is named.
+///
+/// Promise: the identifier less its lowest four bits.
 #[inline(always)]
 pub fn without_incarnation(ident: u32) -> u32
     ensures { result ≡ ident - ident % 2 ^ 4 }
@@ -34,6 +41,10 @@ pub fn without_incarnation(ident: u32) -> u32
 }
 
 /// The number by which frames arbitrate: the frame of the smaller key wins.
+///
+/// Promise: twice the identifier, and one more for a remote frame (`key_of`).
+///
+/// Shown by: `frames_of_every_class`, `key_forgets_the_kind`.
 pub fn key(format: Format, frame: &Frame) -> u64
     requires { FitsFormat format frame.now }
     ensures { result ≡ key_of format frame.now }

@@ -8,6 +8,11 @@ pub struct Field<const SHIFT: u32, const WIDTH: u32>;
 
 impl<const SHIFT: u32, const WIDTH: u32> Field<SHIFT, WIDTH> {
     /// The word with this value in the field.
+    ///
+    /// Promise: the value is that of the field in the result, and no bit outside the field changes.
+    /// So the result is the word with the old value of the field replaced by the new one.
+    ///
+    /// Shown by: `frames_of_every_class`, `put_clears_the_other_fields`.
     pub fn put(word: u32, value: u32) -> u32
         requires placed { IsPlaced SHIFT WIDTH }
         requires fits { value < 2 ^ WIDTH }
@@ -20,6 +25,8 @@ impl<const SHIFT: u32, const WIDTH: u32> Field<SHIFT, WIDTH> {
     }
 
     /// The value that the field has in the word.
+    ///
+    /// Promise: the value of the field in the word.
     pub fn take(word: u32) -> u32
         requires { IsPlaced SHIFT WIDTH }
         ensures { result ≡ field_of SHIFT WIDTH word }

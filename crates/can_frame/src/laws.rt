@@ -8,25 +8,36 @@ ghost use Rattle.can_frame.specs.Identifier.{AgreeInIdentifier, FitsFormat, Fits
 
 use cany_base::Format;
 
-/// A frame with such a number as the frames of a run have, which names a node that there can be,
-/// fits the format.
+/// The frames of a run fit the format.
+///
+/// Promise: a frame with a number below 32,768 and a node that there can be in the format fits the
+/// fields of the format.
 pub fn small_numbers_fit(format: Format)
     ensures { (f : FrameParts) → HasSmallNumbers format f → FitsFormat format f }
 {}
 
-/// Two frames have one identifier exactly where they have one class, number, node and incarnation.
+/// An identifier tells all of a frame but its payload.
+///
+/// Promise: two frames that fit the format have one identifier exactly where they have one class,
+/// number, node and incarnation.
 pub fn identifier_tells_frame(format: Format)
     ensures { (a b : FrameParts) → FitsIdentifier format a → FitsIdentifier format b →
         (identifier_of format a ≡ identifier_of format b) ↔ AgreeInIdentifier a b }
 {}
 
 /// Identifiers order frames by class, then number, then node, then incarnation.
+///
+/// Promise: of two frames that fit the format one has the smaller identifier exactly where it comes
+/// first in this order (`IsOrderedBefore`).
 pub fn identifiers_order_frames(format: Format)
     ensures { (a b : FrameParts) → FitsIdentifier format a → FitsIdentifier format b →
         (identifier_of format a < identifier_of format b) ↔ IsOrderedBefore a b }
 {}
 
 /// Keys order frames by class, then number, then node, then incarnation.
+///
+/// Promise: of two frames that fit the format one has the smaller key exactly where it comes first
+/// in this order. Their keys are equal exactly where these four are.
 pub fn keys_order_frames(format: Format)
     ensures less { (a b : FrameParts) → FitsIdentifier format a → FitsIdentifier format b →
         (key_of format a < key_of format b) ↔ IsOrderedBefore a b }
@@ -35,6 +46,9 @@ pub fn keys_order_frames(format: Format)
 {}
 
 /// Of one identifier a data frame beats a remote frame.
+///
+/// Promise: of two frames with one identifier, of which one is a data frame and one a remote frame,
+/// the data frame has the smaller key.
 pub fn data_beats_remote(format: Format)
     ensures { (data_frame remote_frame : FrameParts) →
         identifier_of format data_frame ≡ identifier_of format remote_frame →
@@ -43,6 +57,8 @@ pub fn data_beats_remote(format: Format)
 {}
 
 /// No two frames have one identifier, kind and payload.
+///
+/// Promise: no two frames have one identifier, kind and payload in a format.
 pub fn decoding_is_unique(format: Format)
     ensures { (ident : ℕ) (remote : Bool) (payload : List ℕ) (f g : FrameParts) →
         IsFrameOf format ident remote payload f → IsFrameOf format ident remote payload g → f ≡ g }

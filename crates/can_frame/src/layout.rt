@@ -43,6 +43,13 @@ pub(crate) fn put_fields(format: Format, number: u16, node: NodeId) -> u32
 }
 
 /// Whether a number fits its field in an identifier.
+///
+/// Promise: whether the number fits its field in an identifier of the format.
+///
+/// Answers: `true` exactly for numbers below 65,536 in the first format, so for each, and below
+/// 32,768 in the second.
+///
+/// Shown by: `numbers_fit_their_field`.
 pub fn number_fits(format: Format, number: u16) -> bool
     ensures { (result ≡ true) ↔ (number < 2 ^ (layout format).number_width) }
 {

@@ -35,7 +35,15 @@ impl Model for Actions {
 }
 
 impl Actions {
-    /// No actions, with room for so many.
+    /// An empty list of actions, with room for `room` of them.
+    ///
+    /// Promise: the list is empty and has this room.
+    ///
+    /// Shown by: `memory_is_there`.
+    ///
+    /// # Errors
+    ///
+    /// `Memory`: out of memory.
     pub fn build(alloc: Global, room: usize) -> Result<Actions, Memory>
         ensures { IfOk result (λ actions. actions ≡ record { items = []; room = room }) }
     {
@@ -43,6 +51,9 @@ impl Actions {
         Ok(Actions { list })
     }
 
+    /// How many actions there are.
+    ///
+    /// Promise: the length of the list, which is at most the room.
     pub fn len(&self) -> usize
         ensures len { result ≡ length self.now.items }
         ensures fits { result ≤ self.now.room }
@@ -51,12 +62,19 @@ impl Actions {
     }
 
     /// How many actions there may be.
+    ///
+    /// Promise: the room that the list was built with.
+    ///
+    /// Shown by: `memory_is_there`.
     pub fn room(&self) -> usize
         ensures { result ≡ self.now.room }
     {
         self.list.room()
     }
 
+    /// The actions, in the order in which they were appended.
+    ///
+    /// Promise: the items of the list, at most as many as there is room for.
     pub fn as_slice(&self) -> &[Action]
         ensures items { result.now ≡ self.now.items }
         ensures fits { length result.now ≤ self.now.room }
@@ -64,6 +82,11 @@ impl Actions {
         self.list.as_slice()
     }
 
+    /// The action at a place, counted from 0.
+    ///
+    /// Promise: the item at this place.
+    ///
+    /// Shown by: `memory_is_there`.
     pub fn get(&self, i: usize) -> Action
         requires { i < length self.now.items }
         ensures { slice_get self.now.items i ≡ Some result }
@@ -72,6 +95,10 @@ impl Actions {
     }
 
     /// Appends an action.
+    ///
+    /// Promise: the action stands behind those of before, and the room stays.
+    ///
+    /// Shown by: `memory_is_there`, `push_drops_the_action`.
     pub fn push(&mut self, action: Action)
         requires { length self.old.items < self.old.room }
         ensures { self.new ≡ record { items = self.old.items ++ action ∷ []; room = self.old.room } }
@@ -80,6 +107,8 @@ impl Actions {
     }
 
     /// Removes all actions. The room stays.
+    ///
+    /// Promise: the list is empty, and the room stays.
     pub fn clear(&mut self)
         ensures { self.new ≡ record { items = []; room = self.old.room } }
     {

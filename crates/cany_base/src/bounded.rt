@@ -27,7 +27,15 @@ impl<T> Model for BoundedVec<T> {
 }
 
 impl<T> BoundedVec<T> {
-    /// An empty list with room for so many items.
+    /// An empty list with room for `room` items.
+    ///
+    /// Promise: the list is empty and has this room.
+    ///
+    /// Shown by: `memory_is_there`.
+    ///
+    /// # Errors
+    ///
+    /// `Memory`: out of memory.
     pub fn build(alloc: Global, room: usize) -> Result<BoundedVec<T>, Memory>
         ensures { IfOk result (λ list. list ≡ record { items = []; room = room }) }
     {
@@ -35,6 +43,9 @@ impl<T> BoundedVec<T> {
         Ok(BoundedVec { items, room })
     }
 
+    /// How many items there are.
+    ///
+    /// Promise: the length of the list, which is at most the room.
     pub fn len(&self) -> usize
         ensures len { result ≡ length self.now.items }
         ensures fits { result ≤ self.now.room }
@@ -43,6 +54,10 @@ impl<T> BoundedVec<T> {
     }
 
     /// How many items there may be.
+    ///
+    /// Promise: the room that the list was built with.
+    ///
+    /// Shown by: `memory_is_there`.
     pub fn room(&self) -> usize
         ensures { result ≡ self.now.room }
     {
@@ -50,12 +65,17 @@ impl<T> BoundedVec<T> {
     }
 
     /// How many items may still be pushed.
+    ///
+    /// Promise: the room less the length.
     pub fn spare(&self) -> usize
         ensures { result + length self.now.items ≡ self.now.room }
     {
         self.room - self.items.len()
     }
 
+    /// The items, in the order in which they were appended.
+    ///
+    /// Promise: the items of the list, at most as many as there is room for.
     pub fn as_slice(&self) -> &[T]
         ensures items { result.now ≡ self.now.items }
         ensures fits { length result.now ≤ self.now.room }
@@ -64,6 +84,8 @@ impl<T> BoundedVec<T> {
     }
 
     /// Appends an item.
+    ///
+    /// Promise: the item stands behind those of before, and the room stays.
     pub fn push(&mut self, item: T)
         requires { length self.old.items < self.old.room }
         ensures { self.new ≡ record { items = self.old.items ++ item ∷ []; room = self.old.room } }
@@ -74,13 +96,17 @@ impl<T> BoundedVec<T> {
 
 impl<T: Drop> BoundedVec<T> {
     /// Removes all items. The room stays.
+    ///
+    /// Promise: the list is empty, and the room stays.
     pub fn clear(&mut self)
         ensures { self.new ≡ record { items = []; room = self.old.room } }
     {
         self.items.clear();
     }
 
-    /// Puts an item in the place of the one that stands there.
+    /// Replaces the item at a place, counted from 0.
+    ///
+    /// Promise: the item stands at this place, and the others and the room stay.
     pub fn set(&mut self, i: usize, item: T)
         requires { i < length self.old.items }
         ensures { self.new ≡ record { items = slice_set self.old.items i item; room = self.old.room } }
@@ -91,6 +117,10 @@ impl<T: Drop> BoundedVec<T> {
 
 impl<T: Copy> BoundedVec<T> {
     /// Appends a copy of an item.
+    ///
+    /// Promise: an equal item stands behind those of before, and the room stays.
+    ///
+    /// Shown by: `memory_is_there`.
     pub fn push_copy(&mut self, item: &T)
         requires { length self.old.items < self.old.room }
         ensures { self.new ≡ record { items = self.old.items ++ item.now ∷ []; room = self.old.room } }
@@ -99,6 +129,8 @@ impl<T: Copy> BoundedVec<T> {
     }
 
     /// Appends copies of items.
+    ///
+    /// Promise: equal items stand behind those of before, in their order, and the room stays.
     pub fn extend(&mut self, items: &[T])
         requires { length self.old.items + length items.now ≤ self.old.room }
         ensures { self.new ≡ record self.old { items = self.old.items ++ items.now } }
@@ -107,6 +139,11 @@ impl<T: Copy> BoundedVec<T> {
         let _ = self.items.extend_from_slice(items);
     }
 
+    /// The item at a place, counted from 0.
+    ///
+    /// Promise: the item at this place.
+    ///
+    /// Shown by: `memory_is_there`.
     pub fn get(&self, i: usize) -> T
         requires { i < length self.now.items }
         ensures { slice_get self.now.items i ≡ Some result }

@@ -13,6 +13,8 @@ pub enum Format {
 
 impl Format {
     /// The most nodes of a bus.
+    ///
+    /// Promise: 32 in the first format, 64 in the second.
     pub fn nodes(self) -> u8
         ensures { result ≡ (layout self).nodes }
     {
@@ -23,6 +25,8 @@ impl Format {
     }
 
     /// The number by which texts name the format.
+    ///
+    /// Promise: 1 for the first format, 2 for the second.
     pub fn number(self) -> u8
         ensures { result ≡ format_number self }
     {
@@ -33,6 +37,8 @@ impl Format {
     }
 
     /// How many bytes a reception history vector has.
+    ///
+    /// Promise: 4 bytes in the first format, 8 in the second.
     pub fn vector_len(self) -> u8
         ensures { result ≡ (layout self).vector }
     {

@@ -7,7 +7,12 @@ ghost use Rattle.cany_base.specs.Params as formula;
 use crate::params::Params;
 
 impl Params {
-    /// The least `bound`, in slots, for so many nodes with this `lag` and these `errors`.
+    /// The least `bound`, in slots, for `nodes` nodes with this `lag` and these `errors`.
+    ///
+    /// Promise: the value of the formula (`least_bound`), which is at least 1 and at most
+    /// 1,000,000.
+    ///
+    /// Shown by: `bound_one_too_small`, `check_forgets_the_lag`.
     pub fn least_bound(nodes: u64, lag: u64, errors: u64) -> u64
         requires nodes { nodes ≤ limit.most_nodes }
         requires lag { lag ≤ limit.greatest_lag }
@@ -20,6 +25,8 @@ impl Params {
     }
 
     /// The least `cycle`, in slots.
+    ///
+    /// Promise: twice the bound plus twice the lag.
     pub fn least_cycle(lag: u64, bound: u64) -> u64
         requires lag { lag ≤ limit.greatest_lag }
         requires bound { bound ≤ limit.greatest_default }
@@ -29,6 +36,8 @@ impl Params {
     }
 
     /// The least `life`, in slots.
+    ///
+    /// Promise: the bound plus the lag.
     pub fn least_life(lag: u64, bound: u64) -> u64
         requires lag { lag ≤ limit.greatest_lag }
         requires bound { bound ≤ limit.greatest_default }
@@ -38,6 +47,8 @@ impl Params {
     }
 
     /// The least `silence`, in slots.
+    ///
+    /// Promise: the sum of `life`, `lag` and `bound`, and one more.
     pub fn least_silence(lag: u64, bound: u64, life: u64) -> u64
         requires lag { lag ≤ limit.greatest_lag }
         requires bound { bound ≤ limit.greatest_default }

@@ -63,6 +63,8 @@ pub const MOST_TEXT_BYTES: usize = 33_554_432;
 pub const MOST_LINE_BYTES: usize = 1_024;
 
 /// The length of the longest run of a format, in slots.
+///
+/// Promise: 100,000 slots in the first format, 400,000 in the second.
 pub fn greatest_slots(format: Format) -> u64
     ensures { result ≡ limit.greatest_slots format }
 {
@@ -73,6 +75,8 @@ pub fn greatest_slots(format: Format) -> u64
 }
 
 /// The greatest number of a frame that a fault rule of a format may name.
+///
+/// Promise: 65,535 in the first format, 32,767 in the second.
 pub fn greatest_number(format: Format) -> u64
     ensures { result ≡ limit.greatest_number format }
 {
@@ -84,13 +88,17 @@ pub fn greatest_number(format: Format) -> u64
 
 /// The greatest attempt that a fault rule of a format may name, counted from 1: a run has no more
 /// attempts than slots.
+///
+/// Promise: 100,000 in the first format, 400,000 in the second.
 pub fn greatest_attempt(format: Format) -> u64
     ensures { result ≡ limit.greatest_attempt format }
 {
     greatest_slots(format)
 }
 
-/// The limits of code are those of the definitions.
+/// The limits of the code are those of the definitions.
+///
+/// Promise: each constant of this file is equal to the limit of its name in the definitions.
 pub fn are_those_of_the_definitions()
     ensures nodes { MOST_NODES ≡ limit.most_nodes }
     ensures error_counter { GREATEST_ERROR_COUNTER ≡ limit.greatest_error_counter }

@@ -16,6 +16,8 @@ pub enum Service {
 
 impl Service {
     /// The class of the frames that carry the data of its messages.
+    ///
+    /// Promise: ED, REL or TOT, as the service is EDCAN, RELCAN or TOTCAN.
     pub fn class(self) -> Class
         ensures { result ≡ data_class self }
     {

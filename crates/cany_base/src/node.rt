@@ -25,6 +25,12 @@ impl NodeId {
     pub const COUNT: u8 = MOST_NODES;
 
     /// The node of this number, if there can be one.
+    ///
+    /// Promise: the node has this number.
+    ///
+    /// Answers: `None` exactly from 64 on.
+    ///
+    /// Shown by: `forty_nodes`.
     pub fn new(n: u8) -> Option<NodeId>
         ensures found { IsSome result ↔ (n < most_nodes) }
         ensures value { IfSome result (λ node. node ≡ n) }
@@ -37,6 +43,8 @@ impl NodeId {
     }
 
     /// The node at this index of a row of nodes.
+    ///
+    /// Promise: the node has the number of this index.
     pub fn of_index(i: usize) -> NodeId
         requires { i < most_nodes }
         ensures { result ≡ i }
@@ -44,6 +52,9 @@ impl NodeId {
         NodeId { number: i as u8 }
     }
 
+    /// The number of the node.
+    ///
+    /// Promise: the number, which is below 64.
     pub fn get(self) -> u8
         ensures value { result ≡ self }
         ensures in_range { result < most_nodes }

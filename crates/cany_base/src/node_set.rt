@@ -27,6 +27,8 @@ impl Model for NodeSet {
 
 impl NodeSet {
     /// The set without nodes.
+    ///
+    /// Promise: the set has no node.
     pub fn empty() -> NodeSet
         ensures has { (i : ℕ) → has result i ≡ false }
         ensures set { result ≡ nobody }
@@ -34,7 +36,11 @@ impl NodeSet {
         NodeSet { bits: 0 }
     }
 
-    /// The nodes below `nodes`.
+    /// The set of the nodes below `nodes`.
+    ///
+    /// Promise: the set has exactly these nodes.
+    ///
+    /// Shown by: `a_vector_has_its_lowest_nodes_last`.
     pub fn all(nodes: u8) -> NodeSet
         requires { nodes ≤ most_nodes }
         ensures has { (i : ℕ) → has result i ≡ nat_lt i nodes }
@@ -50,6 +56,10 @@ impl NodeSet {
     }
 
     /// The set that has node i where bit i is 1.
+    ///
+    /// Promise: the set of these bits.
+    ///
+    /// Shown by: `a_vector_has_its_lowest_nodes_last`.
     pub fn of_bits(bits: u64) -> NodeSet
         ensures { result ≡ record { bits = bits } }
     {
@@ -57,6 +67,10 @@ impl NodeSet {
     }
 
     /// The number whose bit i is 1 where the set has node i.
+    ///
+    /// Promise: the bits of the set, in which every node is below 64.
+    ///
+    /// Shown by: `a_vector_has_its_lowest_nodes_last`.
     pub fn bits(self) -> u64
         ensures bits { result ≡ self.bits }
         ensures below { AllBelow most_nodes self }
@@ -64,6 +78,11 @@ impl NodeSet {
         self.bits
     }
 
+    /// Puts a node into the set.
+    ///
+    /// Promise: the set has this node and those of before.
+    ///
+    /// Shown by: `insert_forgets_the_others`.
     pub fn insert(&mut self, n: NodeId)
         ensures has { (i : ℕ) → has self.new i ≡ (has self.old i || i == n) }
         ensures set { self.new ≡ with_node n self.old }
@@ -71,12 +90,22 @@ impl NodeSet {
         self.bits |= 1u64 << n.get();
     }
 
+    /// Takes a node out of the set.
+    ///
+    /// Promise: the set has the nodes of before but for this one.
     pub fn remove(&mut self, n: NodeId)
         ensures { (i : ℕ) → has self.new i ≡ (has self.old i && not (i == n)) }
     {
         self.bits &= !(1u64 << n.get());
     }
 
+    /// Whether the node is in the set.
+    ///
+    /// Promise: whether the set has the node.
+    ///
+    /// Answers: `true` exactly where the node is in it.
+    ///
+    /// Shown by: `forty_nodes`.
     pub fn has(self, n: NodeId) -> bool
         ensures { result ≡ has self n }
     {
@@ -84,6 +113,10 @@ impl NodeSet {
     }
 
     /// The nodes that stand in both sets.
+    ///
+    /// Promise: the set has exactly the nodes that are in both.
+    ///
+    /// Shown by: `meet_and_plus_swapped`.
     pub fn meet(self, o: NodeSet) -> NodeSet
         ensures has { (i : ℕ) → has result i ≡ (has self i && has o i) }
         ensures set { result ≡ meet self o }
@@ -94,6 +127,10 @@ impl NodeSet {
     }
 
     /// The nodes that stand in one of the sets, or in both.
+    ///
+    /// Promise: the set has exactly the nodes that are in one of the two, or in both.
+    ///
+    /// Shown by: `meet_and_plus_swapped`.
     pub fn plus(self, o: NodeSet) -> NodeSet
         ensures has { (i : ℕ) → has result i ≡ (has self i || has o i) }
         ensures set { result ≡ plus self o }
@@ -104,6 +141,8 @@ impl NodeSet {
     }
 
     /// The nodes of this set that do not stand in the other.
+    ///
+    /// Promise: the set has exactly the nodes of the first that are not in the second.
     pub fn minus(self, o: NodeSet) -> NodeSet
         ensures has { (i : ℕ) → has result i ≡ (has self i && not (has o i)) }
         ensures set { result ≡ minus self o }
@@ -114,6 +153,12 @@ impl NodeSet {
     }
 
     /// Whether the set has no node.
+    ///
+    /// Promise: whether no node is in the set, which is where none is counted.
+    ///
+    /// Answers: `true` exactly where the set has no node.
+    ///
+    /// Shown by: `forty_nodes`.
     pub fn is_empty(self) -> bool
         ensures nobody { result ≡ is_nobody self }
         ensures counted { result ≡ (node_count self == 0) }
@@ -122,6 +167,10 @@ impl NodeSet {
     }
 
     /// How many nodes the set has.
+    ///
+    /// Promise: the number of nodes in the set, which is at most 64.
+    ///
+    /// Shown by: nothing runs it; it has no edit.
     pub fn count(self) -> u32
         ensures count { result ≡ node_count self }
         ensures small { result ≤ most_nodes }
@@ -136,6 +185,12 @@ impl NodeSet {
     }
 
     /// The node of the smallest number.
+    ///
+    /// Promise: a node of the set, and no node of the set has a smaller number.
+    ///
+    /// Answers: `None` exactly where the set is empty.
+    ///
+    /// Shown by: `one_line_down`, `least_from_the_wrong_end`.
     pub fn least(self) -> Option<NodeId>
         ensures none { IfNone result ((i : ℕ) → has self i ≡ false) }
         ensures has { IfSome result (λ node. IsTrue (has self node)) }

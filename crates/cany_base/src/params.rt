@@ -55,8 +55,7 @@ pub enum ParamName {
 }
 
 /// The first formula that fails, by the parameter that it bounds. `needed` is the least value that
-/// it allows, and for
-/// `Confirm` the greatest.
+/// it allows, and for `Confirm` the greatest.
 #[derive(Clone, Copy, Debug, PartialEq, Eq, Error)]
 #[error("{which:?} needs {needed}")]
 pub struct ParamFault {
@@ -70,7 +69,12 @@ impl Params {
     ghost use Rattle.cany_base.specs.Layout.{layout};
     ghost use Rattle.cany_base.specs.Params.{IsInRange, MeetsFormulas, default_parameters, default_parameters_of, first_fault};
 
-    /// As `with_defaults_of`, in format one.
+    /// The parameters that `with_defaults_of` gives in the first format.
+    ///
+    /// Promise: the parameters are those of the definition (`default_parameters`). They are in
+    /// range and meet the formulas.
+    ///
+    /// Shown by: `seats_by_hand`. Nothing in the program runs it.
     pub fn with_defaults(nodes: u8, slots: u64) -> Params
         requires nodes { (2 ≤ nodes) × (nodes ≤ (layout One).nodes) }
         requires slots { (1 ≤ slots) × (slots ≤ limit.greatest_slots One) }
@@ -81,9 +85,14 @@ impl Params {
         Params::with_defaults_of(Format::One, nodes, slots)
     }
 
-    /// The parameters of so many nodes and so many slots where a scenario text gives no others:
-    /// `lag` 0, `omit` 1, `errors` 2, `confirm` 10, and the least legal `bound`, `cycle`, `life`
-    /// and `silence`.
+    /// The parameters for these numbers of nodes and slots where a scenario text gives no others.
+    /// They are `lag` 0, `omit` 1, `errors` 2, `confirm` 10, and the least legal `bound`, `cycle`,
+    /// `life` and `silence`.
+    ///
+    /// Promise: the parameters are those of the definition (`default_parameters_of`). They are in
+    /// range and meet the formulas.
+    ///
+    /// Shown by: `seats_by_hand`. Nothing in the program runs it.
     pub fn with_defaults_of(format: Format, nodes: u8, slots: u64) -> Params
         requires nodes { (2 ≤ nodes) × (nodes ≤ (layout format).nodes) }
         requires slots { (1 ≤ slots) × (slots ≤ limit.greatest_slots format) }
@@ -110,6 +119,15 @@ impl Params {
 
     /// Checks the formulas in their order: those of the bound, the cycle, the life interval, the
     /// silence limit and the confirm timer.
+    ///
+    /// Promise: the answer is `Ok` exactly where all formulas hold.
+    ///
+    /// Shown by: `.ci/refusals.py`, `bound_one_too_small`.
+    ///
+    /// # Errors
+    ///
+    /// `ParamFault` exactly where a formula fails. It names the first that fails, in this order,
+    /// with the value that it needs.
     pub fn check(&self) -> Result<(), ParamFault>
         ensures first { result ≡ first_fault self.now }
         ensures ok { IsOk result ↔ MeetsFormulas self.now }

@@ -59,6 +59,8 @@ impl Payload {
     ghost use Rattle.cany_base.specs.PayloadBytes.{row_of};
 
     /// No bytes, as in a remote frame.
+    ///
+    /// Promise: the payload has no bytes.
     pub fn empty() -> Payload
         ensures { result ≡ [] }
     {
@@ -75,7 +77,13 @@ impl Payload {
         }
     }
 
-    /// The payload of these bytes, of which there can be eight.
+    /// The payload of these bytes, at most eight of them.
+    ///
+    /// Promise: the payload has exactly these bytes.
+    ///
+    /// Answers: `None` exactly for more than 8 bytes.
+    ///
+    /// Shown by: `a_vector_has_its_lowest_nodes_last`, `a_payload_of_nine_bytes`.
     pub fn of(bytes: &[u8]) -> Option<Payload>
         ensures found { IsSome result ↔ (length bytes.now ≤ 8) }
         ensures value { IfSome result (λ payload. payload ≡ bytes.now) }
@@ -97,6 +105,8 @@ impl Payload {
     }
 
     /// How many bytes there are.
+    ///
+    /// Promise: the number of bytes, which is at most 8.
     pub fn len(&self) -> u8
         ensures len { result ≡ length self.now }
         ensures short { result ≤ 8 }
@@ -105,6 +115,8 @@ impl Payload {
     }
 
     /// The byte at a place, counted from 0.
+    ///
+    /// Promise: the byte at this place.
     pub fn byte(&self, i: u8) -> u8
         requires { i < length self.now }
         ensures { slice_get self.now i ≡ Some result }
@@ -113,6 +125,12 @@ impl Payload {
     }
 
     /// The set as the bytes of the format, most significant first, where bit i stands for node i.
+    ///
+    /// Promise: the bytes are those of the set in the format (`vector_bytes`). Read as a vector
+    /// they give the set back.
+    ///
+    /// Shown by: `a_vector_has_its_lowest_nodes_last`, `vector_least_byte_first`,
+    /// `vector_of_the_second_format_has_four_bytes`.
     pub fn vector(set: NodeSet, format: Format) -> Payload
         requires { AllBelow (layout format).nodes set }
         ensures bytes { result ≡ vector_bytes format set }
@@ -125,6 +143,13 @@ impl Payload {
     }
 
     /// The set that the bytes of a vector of the format stand for.
+    ///
+    /// Promise: the set that these bytes are a vector of, whose nodes there can be in the format.
+    /// Its vector is these bytes again.
+    ///
+    /// Answers: `None` exactly where the number of bytes is not that of the format.
+    ///
+    /// Shown by: `a_vector_has_its_lowest_nodes_last`.
     pub fn as_vector(&self, format: Format) -> Option<NodeSet>
         ensures value { result ≡ vector_of format self.now }
         ensures found { IsSome result ↔ (length self.now ≡ (layout format).vector) }

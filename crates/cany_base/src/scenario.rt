@@ -27,8 +27,8 @@ pub struct Scenario {
     counts: SendCounts,
 }
 
-/// By hand, so that it is proved here once: what a derived `Drop` lets go is proved again, part by
-/// part, in each crate that lets a scenario go.
+/// By hand, so that it is proved here once: what a derived `Drop` drops is proved again, part by
+/// part, in each crate that drops a scenario.
 impl Drop for Scenario {
     fn drop(self) {
         let Scenario {
@@ -68,7 +68,10 @@ impl Scenario {
     ghost use Rattle.cany_base.specs.Scenario.{ScenarioParts, IsLegalScenario};
     ghost use Rattle.cany_base.specs.SendCounts.{is_send_by, is_send_of};
 
-    /// The scenario of these parts.
+    /// The scenario of these parts, which have to be legal together.
+    ///
+    /// Promise: the scenario has these parts. It is one as it is read: of the first incarnations,
+    /// and with all of its scripted asks.
     pub fn of_parts(
         params: Params,
         members: NodeSet,
@@ -118,6 +121,10 @@ impl Scenario {
         }
     }
 
+    /// The parameters of the bus and of its protocols.
+    ///
+    /// Promise: the parameters of the scenario, which is legal. It has all of its scripted asks,
+    /// and its incarnations are the first.
     pub fn params(&self) -> &Params
         ensures params { result.now ≡ self.now.params }
         ensures legal { IsLegalScenario self.now }
@@ -131,6 +138,8 @@ impl Scenario {
     }
 
     /// The members of view 0.
+    ///
+    /// Promise: the members that the scenario opens with.
     pub fn members(&self) -> NodeSet
         ensures { result ≡ self.now.members }
     {
@@ -138,20 +147,26 @@ impl Scenario {
     }
 
     /// The scripted sends, in file order.
+    ///
+    /// Promise: the scripted sends, in their order.
     pub fn sends(&self) -> &[SendAsk]
         ensures { result.now ≡ self.now.sends }
     {
         self.sends.as_slice()
     }
 
-    /// How many of the sends are by a service.
+    /// How many of the sends are by the service.
+    ///
+    /// Promise: the number of scripted sends by this service.
     pub fn sends_by(&self, service: Service) -> usize
         ensures { result ≡ count_by (is_send_by service) self.now.sends }
     {
         self.counts.by(service)
     }
 
-    /// How many of the sends are of a node.
+    /// How many of the sends are of the node.
+    ///
+    /// Promise: the number of scripted sends of this node.
     pub fn sends_of(&self, node: NodeId) -> usize
         ensures { result ≡ count_by (is_send_of node) self.now.sends }
     {
@@ -159,6 +174,8 @@ impl Scenario {
     }
 
     /// The fault rules, in file order.
+    ///
+    /// Promise: the fault rules, in their order.
     pub fn rules(&self) -> &[Rule]
         ensures { result.now ≡ self.now.rules }
     {
@@ -166,6 +183,8 @@ impl Scenario {
     }
 
     /// The scripted joins, in file order.
+    ///
+    /// Promise: the scripted joins, in their order.
     pub fn joins(&self) -> &[NodeAsk]
         ensures { result.now ≡ self.now.joins }
     {
@@ -173,14 +192,18 @@ impl Scenario {
     }
 
     /// The scripted leaves, in file order.
+    ///
+    /// Promise: the scripted leaves, in their order.
     pub fn leaves(&self) -> &[NodeAsk]
         ensures { result.now ≡ self.now.leaves }
     {
         self.leaves.as_slice()
     }
 
-    /// The nodes that start again, in file order: at the end of its slot the node of an entry
-    /// starts again, if it is stopped then.
+    /// The restart entries, in file order. At the end of its slot the node of an entry starts
+    /// again, if it is stopped then.
+    ///
+    /// Promise: the restart entries, in their order.
     pub fn restarts(&self) -> &[NodeAsk]
         ensures { result.now ≡ self.now.restarts }
     {
@@ -188,6 +211,12 @@ impl Scenario {
     }
 
     /// The steps that the run is to make, where the scenario fixes them.
+    ///
+    /// Promise: the steps of the scenario's own journal, in their order.
+    ///
+    /// Answers: `None` exactly where the scenario has no journal.
+    ///
+    /// Shown by: `a_restart_between_two_copies`, `round_robin_may_be_given`.
     pub fn journal(&self) -> Option<&[Step]>
         ensures { option_map (λ steps. steps.now) result ≡ self.now.journal }
     {
@@ -198,6 +227,15 @@ impl Scenario {
     }
 
     /// An equal scenario.
+    ///
+    /// Promise: the copy is equal to the scenario.
+    ///
+    /// Shown by: `a_scenario_is_copied`, `a_restart_between_two_copies`, `.ci/refusals.py`,
+    /// `copy_forgets_the_restarts`.
+    ///
+    /// # Errors
+    ///
+    /// `Memory`: out of memory.
     pub fn copy(&self, alloc: Global) -> Result<Scenario, Memory>
         ensures { IfOk result (λ copy. copy ≡ self.now) }
     {

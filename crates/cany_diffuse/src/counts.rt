@@ -60,7 +60,7 @@ impl Model for Counts {
 }
 
 impl Counts {
-    /// Nothing, with room for so many keys.
+    /// Nothing, with room for `room` keys.
     pub(crate) fn build(alloc: Global, room: usize) -> Result<Counts, Memory>
         ensures { IfOk result (λ counts. counts ≡ record { items = []; room = room }) }
     {

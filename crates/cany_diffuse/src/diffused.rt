@@ -18,11 +18,18 @@ pub trait Diffused: Drop {
     ghost is_value: { Self → Type 0 };
 
     /// The number that stands for the value.
+    ///
+    /// Promise: the number of the value. Two values have one number exactly where their frames have
+    /// one class, number and node (`one_name_one_key`).
     fn key(&self) -> u64
         requires { is_value self.now }
         ensures { result ≡ key self.now };
 
     /// The frame that carries the value.
+    ///
+    /// Promise: the frame of the value.
+    ///
+    /// Shown by: `a_frame_of_message_zero`.
     fn form(&self) -> Frame
         requires { is_value self.now }
         ensures { result ≡ form self.now };

@@ -15,8 +15,16 @@ pub enum Learnt {
 }
 
 impl Learnt {
-    /// What a copy calls for, with so many copies, this one counted, and with or without the node's
-    /// own transmission.
+    /// What a copy calls for, given the number of copies, this one counted, and whether the node's
+    /// own transmission was noted.
+    ///
+    /// Promise: the answer is that of the definition (`learnt_of`).
+    ///
+    /// Answers: `Enough` exactly with more than `omit` copies. Else `First` exactly at one copy
+    /// without an own transmission. Else `Again`.
+    ///
+    /// Shown by: `one_copy_is_enough_without_omissions`, `enough_one_copy_early`,
+    /// `first_although_owned`.
     pub fn of(omit: u32, copies: u32, owned: bool) -> Learnt
         ensures { result ≡ learnt_of omit copies owned }
     {
@@ -30,6 +38,12 @@ impl Learnt {
     }
 
     /// Whether the copy is the first that was read, also where the node has sent the frame itself.
+    ///
+    /// Promise: whether one copy was read, this one.
+    ///
+    /// Answers: `true` exactly at `First`, and where the number of copies is 1.
+    ///
+    /// Shown by: `one_message_no_fault`, `every_copy_is_the_first`.
     pub fn is_first_copy(&self) -> bool
         ensures { result ≡ is_first_copy self.now }
     {
@@ -40,6 +54,12 @@ impl Learnt {
     }
 
     /// Whether the copy is one of more than there may be omissions.
+    ///
+    /// Promise: whether more copies were read than there may be omissions.
+    ///
+    /// Answers: `true` exactly at `Enough`.
+    ///
+    /// Shown by: `stopped_node_is_removed`.
     pub fn is_enough(&self) -> bool
         ensures { result ≡ is_enough self.now }
     {

@@ -53,6 +53,14 @@ impl Model for Edcan {
 impl Edcan {
     /// The EDCAN of a node that has read nothing, or only notices of idle slots, with room for all
     /// messages of the scenario that are by EDCAN.
+    ///
+    /// Promise: the value stands for each history of idle slots alone, the empty one too.
+    ///
+    /// Shown by: `one_message_no_fault`.
+    ///
+    /// # Errors
+    ///
+    /// `Memory`: out of memory.
     pub fn build(alloc: Global, node: NodeId, scenario: &Scenario) -> Result<Edcan, Memory>
         requires { node < scenario.now.params.nodes }
         ensures { IfOk result (λ edcan. (n : ℕ) → IsEdcanOf scenario.now node (replicate n Idle) edcan) }
@@ -68,6 +76,10 @@ impl Edcan {
     }
 
     /// The node, which is the origin, sends the message: it asks for its data frame.
+    ///
+    /// Promise: the ask for the data frame of this message is appended, and nothing else changes.
+    ///
+    /// Shown by: `one_message_no_fault`, `send_asks_for_nothing`.
     pub fn send(&mut self, msg: MsgKey, payload: Payload, out: &mut Actions)
         requires { length out.old.items < out.old.room }
         ensures state { self.new ≡ self.old }
@@ -81,6 +93,12 @@ impl Edcan {
     /// What EDCAN does at a notice, as `hear` has it, appended to the actions.
     ///
     /// At most two actions are appended.
+    ///
+    /// Promise: whatever history the value stands for, and whichever notice can come next, exactly
+    /// the actions of the definition are appended (`edcan_effects`). The value then stands for the
+    /// longer history.
+    ///
+    /// Shown by: `stopped_node_is_removed`, `delivers_as_relcan`.
     pub fn on(&mut self, notice: &Notice, out: &mut Actions)
         requires reads { CanRead self.old notice.now }
         requires room { length out.old.items + 2 ≤ out.old.room }
@@ -97,6 +115,14 @@ impl Edcan {
 
     /// What a notice calls for. The notices of the slots before the first that a value is given
     /// count as idle ones.
+    ///
+    /// Promise: whatever history the value stands for, and whichever notice can come next, the
+    /// answer calls for exactly the actions of the definition (`edcan_effects`). The value then
+    /// stands for the longer history.
+    ///
+    /// Shown by: `one_message_no_fault`, `a_relay_delivers_at_its_own_transmission`,
+    /// `delivers_at_each_copy`, `hears_frames_of_other_classes`, `never_relays`,
+    /// `own_transmission_is_not_noted`, `the_origin_does_not_deliver_its_own`.
     // A hint, since a node makes most of these calls in one place.
     #[inline(always)]
     pub fn hear(&mut self, notice: &Notice) -> Calls

@@ -6,7 +6,10 @@ ghost use Rattle.cany_edcan.specs.Edcan.{IsEdcanOf, Rests};
 
 use crate::edcan::Edcan;
 
-/// An idle notice leads to nothing, whenever it comes.
+/// EDCAN has nothing to do in an idle slot.
+///
+/// Promise: whatever history a value stands for, it stands as it is for this history and one idle
+/// notice more, at which EDCAN has no effect.
 pub fn rests(edcan: &Edcan)
     ensures { (scenario : ScenarioParts) (past : List NoticeKind) → IsEdcanOf scenario edcan.now.node past edcan.now
         → Rests scenario edcan.now.node past edcan.now }

@@ -29,7 +29,7 @@ use std::marker::Model;
 /// sent, one that is covered is not: the node has sent just this one, or got it more than `omit`
 /// times. At the end of the cycle the vector is given up, and becomes the view.
 ///
-/// Each vector that was got or sent in the cycle has all of the present one, so of a vector that is
+/// Each vector that was got or sent in the cycle has all of the present one. So of a vector that is
 /// new there are no copies from before, and only those of the present one need be counted.
 #[derive(Drop)]
 pub struct History {
@@ -50,8 +50,17 @@ impl Model for History {
 }
 
 impl History {
-    /// That of a node that has read nothing, or only notices of idle slots. It takes no memory: it
-    /// is built as the other protocols are.
+    /// The value of a node that has read nothing, or only notices of idle slots. It takes no
+    /// memory: it is built as the other protocols are.
+    ///
+    /// Promise: the value stands for each history of idle slots alone, the empty one too, of a node
+    /// without a vector.
+    ///
+    /// Shown by: `restart_joins`.
+    ///
+    /// # Errors
+    ///
+    /// `Memory`: out of memory. The body never answers it, but no clause says so.
     pub fn build(alloc: Global, node: NodeId, scenario: &Scenario) -> Result<History, Memory>
         requires { node < scenario.now.params.nodes }
         ensures { IfOk result (λ history. (n : ℕ) → IsHistoryOf scenario.now node (replicate n Idle) None history) }
@@ -67,11 +76,23 @@ impl History {
     }
 
     /// What a notice leads to: the vector in it, then the end of a cycle, then the start of one.
-    /// `start` is what the node starts with, given where a cycle starts and it is a member. The
-    /// notices of the slots before the first that a value is given count as idle ones.
+    /// `start` is what the node starts with, given where a cycle starts and it is a member.
     ///
-    /// The answer is the vector that the node has at the end of a cycle. At most three actions are
-    /// appended.
+    /// The notices of the slots before the first that a value is given count as idle ones. At most
+    /// three actions are appended.
+    ///
+    /// Promise: whatever history and vector the value stands for, a notice that can come next leads
+    /// to exactly the actions of the definition (`exchange_at`). The value then stands for the
+    /// longer history and the vector after it. The answer is the vector that becomes the view, with
+    /// the number of its cycle.
+    ///
+    /// Answers: `None` exactly where no cycle ends in this slot, or the node has no vector at its
+    /// end.
+    ///
+    /// Shown by: `restart_joins`, `a_covered_vector_is_not_withdrawn`,
+    /// `a_node_without_a_vector_takes_the_one_that_it_gets`, `a_vector_is_covered_one_copy_early`,
+    /// `a_vector_of_another_cycle_is_taken`, `an_own_transmission_is_not_noted`,
+    /// `copies_of_an_old_vector_count_for_a_new_one`, `vector_replaced_not_met`.
     pub fn on(
         &mut self,
         notice: &Notice,
@@ -107,6 +128,12 @@ impl History {
 
     /// The first slot from `now` on in which an idle notice may lead to something: a membership
     /// cycle starts or ends in it. Until then the value stands as it is for the idle notices too.
+    ///
+    /// Promise: whatever history and vector the value stands for, an idle notice of a slot from
+    /// `now` on and before the answer leads to nothing. The value stands as it is for the longer
+    /// history too.
+    ///
+    /// Shown by: `a_value_rests_until_after_the_end_of_a_cycle`.
     pub fn wake(&self, now: Slot) -> Slot
         ensures rests { (scenario : ScenarioParts) (past : List NoticeKind) (vector : Option Nodes)
             → IsHistoryOf scenario self.now.node past vector self.now → now ≤ length past → length past < result

@@ -1,6 +1,6 @@
-//! Where bytes come from and where they go: the two traits of the outside, sources and sinks in
-//! memory that fail when they are told to, adapters to std's readers and writers, and the two calls
-//! that read and write as a whole.
+//! Where bytes come from and where they go: the two traits of the outside, and two calls that read
+//! and write as a whole. Sources and sinks in memory fail when they are told to. Adapters stand
+//! over std's readers and writers.
 #![tactic(auto)]
 
 mod failed;

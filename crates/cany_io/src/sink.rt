@@ -16,6 +16,16 @@ pub trait Sink {
 
     /// Takes bytes off the front of `piece`, at least one. A device that takes none answers
     /// `Failed`. After an error a write may be tried again.
+    ///
+    /// Promise: it takes some first bytes of the piece, at least one. Where the sink tells its
+    /// bytes, these then stand behind those before. At an error no byte is taken, and the count of
+    /// faults never falls.
+    ///
+    /// Shown by: `the_third_write_fails`, `streams_of_std`, `taking_nothing_is_ok`.
+    ///
+    /// # Errors
+    ///
+    /// `Failed` only where the count of faults rose, or stands at the last number of 64 bits.
     fn write(&mut self, piece: &[u8]) -> Result<usize, Failed>
         requires { 0 < length piece.now }
         ensures bound { IfOk result (λ n. n ≤ length piece.now) }

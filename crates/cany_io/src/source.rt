@@ -14,8 +14,18 @@ pub trait Source {
     ghost faults: { Self → ℕ };
 
     /// Takes bytes off the front of those left and puts them at the start of `buf`, which may be
-    /// filled in part. What stands in `buf` behind them, and all of it after an error, is left
-    /// open. After an error a read may be tried again.
+    /// filled in part. Nothing is said of what stands in `buf` behind them, nor of any of it after
+    /// an error. After an error a read may be tried again.
+    ///
+    /// Promise: where the source tells its bytes, it gives the first of those left, and none
+    /// exactly where none is left. At an error all bytes are left, and the count of faults never
+    /// falls.
+    ///
+    /// Shown by: `the_first_read_fails`, `streams_of_std`.
+    ///
+    /// # Errors
+    ///
+    /// `Failed` only where the count of faults rose, or stands at the last number of 64 bits.
     fn read(&mut self, buf: &mut [u8]) -> Result<usize, Failed>
         requires { 0 < length buf.old }
         ensures bound { IfOk result (λ n. n ≤ length buf.new) }

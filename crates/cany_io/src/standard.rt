@@ -23,7 +23,11 @@ impl<R: Read + Drop> Model for StdSource<R> {
 }
 
 impl<R: Read + Drop> StdSource<R> {
-    /// A source that has not failed yet.
+    /// A source over a stream of std, of which no read has failed yet.
+    ///
+    /// Promise: it has this stream, and no read failed.
+    ///
+    /// Shown by: `streams_of_std`.
     pub fn new(reader: R) -> StdSource<R>
         ensures { result ≡ record { stream = reader; faults = 0 } }
     {
@@ -31,6 +35,10 @@ impl<R: Read + Drop> StdSource<R> {
     }
 
     /// How many reads failed.
+    ///
+    /// Promise: the number of reads that failed.
+    ///
+    /// Shown by: `streams_of_std`.
     pub fn faults(&self) -> u64
         ensures { result ≡ self.now.faults }
     {
@@ -79,7 +87,11 @@ impl<W: Write + Drop> Model for StdSink<W> {
 }
 
 impl<W: Write + Drop> StdSink<W> {
-    /// A sink that has not failed yet.
+    /// A sink over a stream of std, to which no write has failed yet.
+    ///
+    /// Promise: it has this stream, and no write failed.
+    ///
+    /// Shown by: `streams_of_std`.
     pub fn new(writer: W) -> StdSink<W>
         ensures { result ≡ record { stream = writer; faults = 0 } }
     {
@@ -87,6 +99,10 @@ impl<W: Write + Drop> StdSink<W> {
     }
 
     /// How many writes failed.
+    ///
+    /// Promise: the number of writes that failed.
+    ///
+    /// Shown by: `streams_of_std`.
     pub fn faults(&self) -> u64
         ensures { result ≡ self.now.faults }
     {

@@ -43,6 +43,19 @@ impl From<AllocError> for ReadFault {
 
 /// Reads to the end, at most `limit` bytes, and stops at the first byte beyond. The bytes that were
 /// read before a fault are lost.
+///
+/// Promise: at `Ok` these bytes, at most `limit`, were all that was left, and nothing is left. In
+/// any case at most one byte beyond the limit was read. Where the source tells its bytes, their
+/// number decides between `Ok` and `TooLong`.
+///
+/// Shown by: `texts_within_a_limit_are_read`, `the_first_read_fails`, `streams_of_std`,
+/// `a_byte_of_each_read_is_lost`, `reading_ends_at_a_short_read`, `too_long_at_the_limit`.
+///
+/// # Errors
+///
+/// `TooLong` only where more than `limit` bytes were left, if the source tells them. `Failed` only
+/// where the source's count of faults rose, or stands at the last number of 64 bits. `Memory`: out
+/// of memory.
 pub fn read_all<S: Source>(
     alloc: Global,
     source: &mut S,
@@ -84,6 +97,16 @@ pub fn read_all<S: Source>(
 
 /// Writes all of `bytes`, in as many pieces as the sink takes. It takes no memory. Nothing is
 /// called where there are no bytes.
+///
+/// Promise: at `Ok` the sink took exactly these bytes, and in any case a prefix of them. Where
+/// there are no bytes the answer is `Ok`, and the sink is as it was.
+///
+/// Shown by: `the_third_write_fails`, `streams_of_std`, `writing_always_fails`,
+/// `writing_ends_after_one_piece`.
+///
+/// # Errors
+///
+/// `Failed` only where the sink's count of faults rose, or stands at the last number of 64 bits.
 pub fn write_whole<K: Sink>(sink: &mut K, bytes: &[u8]) -> Result<(), Failed>
     ensures bytes { OnOk result (Takes (K.taken sink.old) bytes.now (K.taken sink.new)) }
     ensures prefix { TakesPrefix (K.taken sink.old) bytes.now (K.taken sink.new) }

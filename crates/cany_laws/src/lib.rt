@@ -1,7 +1,7 @@
-//! What holds of every run besides the promise: laws of the definitions, each a function without a
-//! body whose clauses say it. They speak of every incarnation of every node, of the one order, of
-//! what is final, of failures that are told and of silence that is detected, of members, and of
-//! what the bus carries. No crate stands on it.
+//! What else holds of every run: laws of the definitions beside the promise. Each is a function
+//! without a body, whose clauses say it. They speak of every incarnation of every node, of the one
+//! order, of what is final, of failures that are told and of silence that is detected, of members,
+//! and of what the bus carries. No crate stands on it.
 #![tactic(auto)]
 
 pub mod admission;

@@ -8,14 +8,17 @@ ghost use Rattle.cany_model.specs.Rules.Messages.{Message, messages_of};
 ghost use Rattle.cany_model.specs.Runs.Run.{run};
 ghost use Rattle.cany_laws.specs.Final.{IsFinal};
 
-/// Settled is for ever: if a message is settled after a front of a journal in which the slots up to
-/// its scripted slot ran, then whatever comes after, it is settled wherever every running node has
-/// read every notice again, no later slot carries a frame of it, and no log, of whatever
-/// incarnation of whatever node, has a delivery of it in a later slot. So nobody need look again.
+/// Settled is for ever, so nobody need look again. It holds of every journal, with restarts, and
+/// under any faults, within the hypothesis or not.
 ///
-/// It holds of every journal of a legal scenario, with restarts, and under any faults, within the
-/// hypothesis or not. The premise on the scripted slot is needed where the origin is stopped, and
-/// may start again before it.
+/// The premise on the scripted slot is needed where the origin is stopped, and may start again
+/// before it.
+///
+/// Promise: let a message of a legal scenario be settled after a front of a journal in which its
+/// scripted slot ran. Whatever comes after, it is settled wherever all is read again, no later slot
+/// carries a frame of it, and no log has a delivery of it in a later slot (`IsFinal`).
+///
+/// Shown by: rows SettledRows of cany_law_rows.
 pub fn settled_is_final()
     ensures { (scenario : ScenarioParts) (front rest : List Step) → IsLegalScenario scenario
         → (m : Message) → Contains (messages_of scenario.sends) m → m.slot < slots_run (run scenario front)

@@ -12,16 +12,17 @@ ghost use Rattle.cany_model.specs.Rules.Sends.{is_sent_at_once};
 ghost use Rattle.cany_model.specs.Runs.Run.{run};
 ghost use Rattle.cany_laws.specs.Waits.{HasAskedBy, HasDeliveredBy, IsAwaitedThrough, WasCarriedIn, least_left, most_taken, interference, waits_since, window};
 
-/// How long a frame waits: in every run within the fault hypothesis of a legal scenario, let
-/// running nodes wait with a frame of one identity in n consecutive slots, none of which carries it
-/// Clean. Then n is at most the sum of two numbers: how many of these slots carry Clean a frame
-/// that wins over it and is of the classes FDA to ED; and `most_taken` times the number of windows
-/// of
-/// `bound` + `lag` slots that n slots need, the last one perhaps in part.
+/// How long a frame waits. At most `most_taken` slots of a window of `bound` + `lag` slots are Lost
+/// or Partial, or carry Clean an ACCEPT, RHA or ELS. With N nodes that is 3N² + 2N + `errors`.
 ///
-/// `most_taken` is 3N² + 2N + `errors`, with N nodes: at most so many slots of a window carry an
-/// ACCEPT, RHA or ELS Clean, or are Lost or Partial. No slot is idle while a frame waits. The node
-/// that waits need not be the same in each slot.
+/// No slot is idle while a frame waits. The node that waits need not be the same in each slot.
+///
+/// Promise: in a run within the hypothesis of a legal scenario, let running nodes wait with a frame
+/// of one identity in n consecutive slots that do not carry it Clean. Let some number of windows
+/// have n slots or more. Then n is at most `most_taken` times this number, plus how many of these
+/// slots carry Clean a frame that wins over it, of the classes FDA to ED.
+///
+/// Shown by: `errors_take_no_slot`; rows WaitRows of cany_law_rows.
 pub fn few_slots_of_waiting()
     ensures { (scenario : ScenarioParts) (journal : List Step) → IsLegalScenario scenario
         → IsWithin scenario.params (run scenario journal).trace → (x : Identity) (first n windows : ℕ)
@@ -30,13 +31,15 @@ pub fn few_slots_of_waiting()
         → n ≤ interference x (run scenario journal) first n + windows * most_taken scenario.params }
 {}
 
-/// A frame that waits is carried: in every run within the fault hypothesis of a legal scenario, let
-/// running nodes wait with a frame of one identity in each slot of w windows of `bound` + `lag`
-/// slots, one after another. If fewer than w times `least_left` of these slots carry Clean a frame
-/// that wins over it and is of the classes FDA to ED, one of these slots carries it Clean.
+/// A frame that waits is carried. `least_left` is `bound` + `lag` less `most_taken`, and in a legal
+/// scenario at least 1. Against an ACCEPT, RHA or ELS no slot is counted, so one window is enough.
 ///
-/// `least_left` is `bound` + `lag` less `most_taken`. In a legal scenario it is at least 1. Against
-/// an ACCEPT, RHA or ELS no slot is counted, so one window is enough.
+/// Promise: in a run within the hypothesis of a legal scenario, let running nodes wait with a frame
+/// of one identity in each slot of w windows of `bound` + `lag` slots. Let fewer than w times
+/// `least_left` of these slots carry Clean a frame that wins over it, of the classes FDA to ED.
+/// Then one of these slots carried it Clean.
+///
+/// Shown by: rows WaitRows of cany_law_rows.
 pub fn carried_in_windows()
     ensures some_left { (scenario : ScenarioParts) → IsLegalScenario scenario → 0 < least_left scenario.params }
     ensures carried { (scenario : ScenarioParts) (journal : List Step) → IsLegalScenario scenario
@@ -47,17 +50,21 @@ pub fn carried_in_windows()
         → WasCarriedIn (run scenario journal).trace x first (windows * window scenario.params) }
 {}
 
-/// A message is carried: in every run within the fault hypothesis of a legal scenario, let the
-/// origin of a message run and, in its present incarnation, have asked for the data frame by its
-/// turn of slot t. Let w windows of `bound` + `lag` slots have run from slot t + `lag` + 1 on. If
-/// fewer than w times `least_left` of their slots carry Clean a frame that wins over it and is of
-/// the classes FDA to ED, the frame is carried Clean by slot t + `lag` + w * (`bound` + `lag`),
-/// perhaps before the first window.
+/// By when a message is carried, of all three protocols. A window has `bound` + `lag` slots. For
+/// EDCAN and RELCAN t may be the scripted slot: an origin that has asked had asked by its turn of
+/// it (`asked`).
 ///
-/// It holds of the messages of all three protocols. For EDCAN and RELCAN t may be the scripted
-/// slot: an origin that has asked had asked by its turn of it. A message of TOTCAN is asked for
-/// only when the origin has read its own transmission of each one before it in the backlog, and
-/// `bound` + `lag` slots have passed since the last of them; the law does not say when that is.
+/// A message of TOTCAN is asked for only when the origin has read its own transmission of each one
+/// before it in the backlog. By then `bound` + `lag` slots must have passed since the last of them.
+/// The law does not say when that is.
+///
+/// Promise: in a run within the hypothesis of a legal scenario, let the origin run, and have asked
+/// for the data frame by its turn of slot t. Let w windows run from slot t + `lag` + 1 on, of which
+/// fewer than w times `least_left` slots carry Clean a frame of FDA to ED that wins over it. Then
+/// the frame was carried Clean by slot t + `lag` + w · (`bound` + `lag`), perhaps before the first
+/// window.
+///
+/// Shown by: rows WaitRows of cany_law_rows.
 pub fn message_is_carried()
     ensures asked { (scenario : ScenarioParts) (journal : List Step) (m : Message) → Contains (messages_of scenario.sends) m
         → is_sent_at_once m.service ≡ true → IsCorrect scenario (run scenario journal) m.origin
@@ -71,15 +78,19 @@ pub fn message_is_carried()
         → WasCarriedIn (run scenario journal).trace (data_id m) 0 (waits_since scenario.params t + windows * window scenario.params) }
 {}
 
-/// Delivery at the latest with the Clean slot: a message of EDCAN or RELCAN whose data frame was
-/// carried Clean in a slot c has been delivered in slot c or an earlier one by each correct node
-/// that takes part since c and has read slot c.
+/// Delivery at the latest with the Clean slot. If a node takes part since slot 0, and
+/// `message_is_carried` says by when the frame is carried, the node delivers the message by then,
+/// once it has read that far.
 ///
-/// So if a node takes part since slot 0, and `message_is_carried` says by when the frame is carried
-/// Clean, the node delivers the message by then, once it has read that far. Of a node that takes
-/// part only since later one must know that it does so since c. It holds of every journal, at any
-/// lag and under any faults, within the hypothesis or not, and asks for at most 64 nodes. When a
-/// message of TOTCAN is delivered `incarnations::delivery_in_time` says.
+/// Of a node that takes part only since later one must know that it does so since c. The law holds
+/// of every journal, at any lag and under any faults, within the hypothesis or not. When a message
+/// of TOTCAN is delivered `incarnations::delivery_in_time` says.
+///
+/// Promise: in a run of at most 64 nodes, let the data frame of a message of EDCAN or RELCAN be
+/// carried Clean in slot c. Each correct node that takes part since c and has read slot c has
+/// delivered the message in slot c or an earlier one.
+///
+/// Shown by: rows WaitRows of cany_law_rows.
 pub fn delivered_when_carried()
     ensures { (scenario : ScenarioParts) (journal : List Step) → scenario.params.nodes ≤ most_nodes
         → (m : Message) → Contains (messages_of scenario.sends) m → is_sent_at_once m.service ≡ true → (c i : ℕ)

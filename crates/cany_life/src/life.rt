@@ -73,8 +73,17 @@ impl Model for Life {
 }
 
 impl Life {
-    /// That of a node that has read nothing, or only notices of idle slots, with room for the signs
-    /// of all nodes in all cycles.
+    /// The value of a node that has read nothing, or only notices of idle slots, with room for the
+    /// signs of all nodes in all cycles.
+    ///
+    /// Promise: the value stands for each history of idle slots alone, the empty one too, whatever
+    /// the members are.
+    ///
+    /// Shown by: `stopped_node_is_removed`.
+    ///
+    /// # Errors
+    ///
+    /// `Memory`: out of memory.
     pub fn build(alloc: Global, node: NodeId, scenario: &Scenario) -> Result<Life, Memory>
         requires { node < scenario.now.params.nodes }
         ensures { IfOk result (λ life. (n : ℕ) (members : Nodes) → IsLifeOf scenario.now node (replicate n Idle) (knowledge_at_first members) life) }
@@ -97,11 +106,21 @@ impl Life {
         })
     }
 
-    /// What a notice leads to: who shows life in it, the failure sign in it, and then the signs
+    /// What a notice leads to: the life shown in it, the failure sign in it, and then the signs
     /// that silence brings, by ascending node. The notices of the slots before the first that a
     /// value is given count as idle ones.
     ///
     /// At most three actions are appended, and two for each node.
+    ///
+    /// Promise: whatever history and knowledge the value stands for, and whichever members it is
+    /// given, a notice that can come next leads to exactly the actions of the definition
+    /// (`failures_at`). The value then stands for the longer history, and for what the node knows
+    /// then.
+    ///
+    /// Shown by: `stopped_node_is_removed`, `a_failed_node_is_found_again`,
+    /// `a_sign_by_silence_is_asked_for_again_at_its_copy`,
+    /// `silence_comes_before_the_sign_of_the_notice`, `silence_is_one_slot_short`,
+    /// `withdrawn_one_copy_early`.
     pub fn on(&mut self, notice: &Notice, members: NodeSet, out: &mut Actions)
         requires reads { CanRead self.old notice.now }
         requires members { AllBelow self.old.params.nodes members }
@@ -124,8 +143,13 @@ impl Life {
         self.find(notice.slot, members, out);
     }
 
-    /// These nodes are newly admitted to the view in the turn of a slot: they have not failed, and
-    /// show life from that slot on.
+    /// Tells that these nodes are newly admitted to the view in the turn of a slot. They have not
+    /// failed, and show life from that slot on.
+    ///
+    /// Promise: the value stands for the same history, and for what the node knows after these were
+    /// admitted (`after_admitting`).
+    ///
+    /// Shown by: `restart_joins`.
     pub fn admit(&mut self, newly: NodeSet, now: Slot)
         requires newly { AllBelow self.old.params.nodes newly }
         requires now { HasReadSlot self.old now }
@@ -145,6 +169,12 @@ impl Life {
     /// In the turn of a slot, after its notice: a member asks for its next life sign if it is due.
     ///
     /// At most one action is appended. The frame tells no incarnation: its node does that.
+    ///
+    /// Promise: whatever history and knowledge the value stands for, the ask for the next life sign
+    /// is appended exactly where it is due by the definition (`life_sign`). Its number is that of
+    /// the signs sent so far, and the value stays as it is.
+    ///
+    /// Shown by: `stopped_node_is_removed`, `the_life_sign_is_one_slot_late`.
     pub fn sign(&mut self, now: Slot, members: NodeSet, out: &mut Actions)
         requires members { AllBelow self.old.params.nodes members }
         requires now { HasReadSlot self.old now }
@@ -162,10 +192,14 @@ impl Life {
     }
 
     /// The first slot from `now` on in which an idle notice may lead to something, where these are
-    /// the members then too: silence may find one of them, or the node's next life sign is due.
-    /// Until then the value stands as it is for the idle notices too.
+    /// the members then too. Silence may find one of them then, or the node's next life sign is
+    /// due. It is `now` where silence was not looked for among just these members yet.
     ///
-    /// It is `now` where silence was not looked for among just these members yet.
+    /// Promise: whatever history and knowledge the value stands for, with these members, an idle
+    /// notice of a slot from `now` on and before the answer leads to nothing. The value stands as
+    /// it is for the longer history too.
+    ///
+    /// Shown by: `the_node_rests_in_the_slot_of_its_life_sign`.
     pub fn wake(&self, members: NodeSet, now: Slot) -> Slot
         ensures rests { (scenario : ScenarioParts) (past : List NoticeKind) (knowledge : Knowledge) → IsLifeOf scenario self.now.node past knowledge self.now →
             now ≤ length past → length past < result → length past < scenario.params.slots →
@@ -177,6 +211,11 @@ impl Life {
     }
 
     /// The nodes that have failed here.
+    ///
+    /// Promise: the nodes that have failed by the definition, whatever history and knowledge the
+    /// value stands for.
+    ///
+    /// Shown by: `stopped_node_is_removed`.
     pub fn failed(&self) -> NodeSet
         ensures failed { result ≡ self.now.failed }
         ensures exact { (scenario : ScenarioParts) (past : List NoticeKind) (knowledge : Knowledge) → IsLifeOf scenario self.now.node past knowledge self.now →
@@ -185,8 +224,14 @@ impl Life {
         self.failed
     }
 
-    /// Who shows life in a notice: another node, or the node itself, which counts its own life
-    /// signs. It is all that `on` does at a notice that tells no more, where silence finds nobody.
+    /// Notes the life that a notice shows: that of another node, or the node's own, whose life
+    /// signs are counted. It is all that `on` does at a notice that tells no more, where silence
+    /// finds nobody.
+    ///
+    /// Promise: the value is that of the definition after the notice (`heard`), and nothing else is
+    /// done.
+    ///
+    /// Shown by: `stopped_node_is_removed`, `a_confirmation_shows_life`.
     #[tactic(auto, unfolding(crate::specs::LifeSteps::heard))]
     pub fn see(&mut self, notice: &Notice)
         requires { self.old.sent < most_slots }
@@ -502,7 +547,7 @@ impl Life {
     }
 }
 
-/// So many sets of nodes, all empty.
+/// A list of empty sets of nodes, one for each cycle.
 fn nobody_known(alloc: Global, cycles: usize) -> Result<BoundedVec<NodeSet>, Memory>
     ensures { IfOk result (λ known. known.items ≡ replicate cycles nobody) }
 {

@@ -39,6 +39,10 @@ impl Calls {
 }
 
 /// The frame that confirms the message of a data frame.
+///
+/// Promise: it is the frame of the class CONFIRM with this number and node, without bytes.
+///
+/// Shown by: `relcan_falls_back`.
 pub fn confirmation_frame(frame: &Frame) -> Frame
     ensures { result ≡ confirm_frame frame.now }
 {
@@ -46,6 +50,12 @@ pub fn confirmation_frame(frame: &Frame) -> Frame
 }
 
 /// Appends what a notice calls for by a service to the actions.
+///
+/// Promise: exactly what is called for by this service is appended, at most two actions. First
+/// comes the delivery of the message of the notice's frame, and then the frame or its confirmation
+/// asked for, the frame withdrawn, or nothing.
+///
+/// Shown by: `stopped_node_is_removed`.
 pub fn put(service: Service, calls: &Calls, notice: &Notice, out: &mut Actions)
     requires { length out.old.items + 2 ≤ out.old.room }
     ensures actions { out.new.items ≡ out.old.items ++ actions_called service notice.now calls.now }

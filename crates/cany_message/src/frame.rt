@@ -14,6 +14,9 @@ pub trait FrameClass {
     /// The class.
     ghost class: { Class };
 
+    /// The class of the frames.
+    ///
+    /// Promise: the class that the type stands for.
     fn class() -> Class
         ensures { result ≡ class };
 }
@@ -27,6 +30,9 @@ pub struct MessageFrame<C: FrameClass> {
 }
 
 impl<C: FrameClass> MessageFrame<C> {
+    /// What a frame says that names this message and carries this payload.
+    ///
+    /// Promise: it has this message and this payload.
     pub fn new(msg: MsgKey, payload: Payload) -> MessageFrame<C>
         ensures msg { result.msg ≡ msg }
         ensures payload { result.payload ≡ payload }
@@ -39,6 +45,9 @@ impl<C: FrameClass> MessageFrame<C> {
     }
 
     /// What a frame says of a message. The frame's class is not looked at.
+    ///
+    /// Promise: the sequence number is the number of the frame, the origin is its node, which is
+    /// below 64, and the payload is its own.
     pub fn of(frame: &Frame) -> MessageFrame<C>
         ensures seq { result.msg.seq ≡ frame.now.number }
         ensures origin { result.msg.origin ≡ frame.now.node }
@@ -86,6 +95,9 @@ impl<C: FrameClass> Diffused for MessageFrame<C> {
 }
 
 /// The frame of a class that names the message of this frame, and carries nothing.
+///
+/// Promise: the frame has this class and the number and node of the given one. It has incarnation 0
+/// and no bytes.
 pub fn bare_frame(class: Class, frame: &Frame) -> Frame
     requires { FitsClass class [] }
     ensures { result ≡ record { class = class; number = frame.now.number; node = frame.now.node; inc = 0; payload = [] } }
@@ -100,6 +112,12 @@ pub fn bare_frame(class: Class, frame: &Frame) -> Frame
 }
 
 /// Whether the frame is of a class.
+///
+/// Promise: whether the classes are the same.
+///
+/// Answers: `true` exactly where the frame is of this class.
+///
+/// Shown by: `three_services`.
 #[tactic(auto, unfolding(cany_model::specs::Bus::Frames::same_class))]
 pub fn is_of_class(frame: &Frame, class: Class) -> bool
     ensures { result ≡ same_class frame.now.class class }

@@ -1,6 +1,6 @@
 //! What the broadcast protocols share: the number that stands for a message, the frames that name
-//! it, the actions that deliver it, relay its frame and withdraw it, what a notice of such a frame
-//! calls for, the sequence numbers of scripted sends, and how many of them are by a service.
+//! it, and the actions that deliver it, relay its frame and withdraw it. Then what a notice of such
+//! a frame calls for, the sequence numbers of scripted sends, and how many are by a service.
 #![tactic(auto)]
 
 mod actions;

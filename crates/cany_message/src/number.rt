@@ -3,7 +3,11 @@ ghost use Rattle.cany_message.specs.Numbers.{message_number};
 
 use cany_base::{MsgKey, NodeId};
 
-/// The number that stands for a message: each message of a run has another.
+/// The number that stands for a message.
+///
+/// Promise: the sequence number times 64, plus the number of the origin.
+///
+/// Shown by: `numbers_of_32_nodes`.
 pub fn message_number(msg: &MsgKey) -> u64
     ensures { result ≡ message_number msg.now.seq msg.now.origin }
 {

@@ -22,7 +22,11 @@ impl Model for SequenceNumbers {
 }
 
 impl SequenceNumbers {
-    /// No sends are counted.
+    /// Numbers by which no send is counted yet.
+    ///
+    /// Promise: they count no sends.
+    ///
+    /// Shown by: `four_messages`.
     pub fn new() -> SequenceNumbers
         ensures { HaveCounted [] result }
     {
@@ -33,6 +37,11 @@ impl SequenceNumbers {
 
     /// Counts a send of a node, which follows those counted before. Gives the sequence number of
     /// its message.
+    ///
+    /// Promise: of numbers that count some sends, the answer is the sequence number of the message
+    /// of this send by the definition. They then count this send too.
+    ///
+    /// Shown by: `four_messages`, `a_send_is_not_counted`.
     pub fn next(&mut self, origin: NodeId) -> u16
         requires { (node : ℕ) → node < most_nodes → sent_by self.old node < 65535 }
         ensures message { (earlier : List SendAsk) (send : SendAsk) → HaveCounted earlier self.old → send.node ≡ origin → result ≡ (message_of earlier send).seq }

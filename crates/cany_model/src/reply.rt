@@ -4,7 +4,7 @@ use cany_base::{NodeId, Slot};
 #[derive(Clone, Copy, Debug, PartialEq, Eq)]
 pub enum StepReply {
     Done,
-    /// A slot cannot run yet: the node, the least such one, has so many unread notices.
+    /// A slot cannot run yet: the node, the least such one, has this number of unread notices.
     Lagging { node: NodeId, unread: u32 },
     /// All slots ran.
     Over { slots: u64 },

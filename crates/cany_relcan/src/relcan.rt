@@ -57,8 +57,8 @@ pub struct Relcan {
 
 /// The tables of what a node read, as they are built.
 ///
-/// They are built apart from the rest: how a value is let go where the memory of the next is
-/// wanting is proved part by part at each such place.
+/// They are built apart from the rest: that a value is dropped where there is no memory for the
+/// next is proved part by part at each such place.
 #[derive(Drop)]
 struct Tables {
     copies: Eager<Data>,
@@ -76,6 +76,14 @@ impl Model for Relcan {
 impl Relcan {
     /// The RELCAN of a node that has read nothing, or only notices of idle slots, with room for all
     /// messages of the scenario that are by RELCAN.
+    ///
+    /// Promise: the value stands for each history of idle slots alone, the empty one too.
+    ///
+    /// Shown by: `relcan_falls_back`.
+    ///
+    /// # Errors
+    ///
+    /// `Memory`: out of memory.
     pub fn build(alloc: Global, node: NodeId, scenario: &Scenario) -> Result<Relcan, Memory>
         requires { node < scenario.now.params.nodes }
         ensures { IfOk result (λ relcan. (n : ℕ) → IsRelcanOf scenario.now node (replicate n Idle) relcan) }
@@ -97,6 +105,10 @@ impl Relcan {
     }
 
     /// The node, which is the origin, sends the message: it asks for its data frame.
+    ///
+    /// Promise: the ask for the data frame of this message is appended, and nothing else changes.
+    ///
+    /// Shown by: `relcan_falls_back`, `confirm_before_sent`.
     pub fn send(&mut self, msg: MsgKey, payload: Payload, out: &mut Actions)
         requires { length out.old.items < out.old.room }
         ensures state { self.new ≡ self.old }
@@ -112,6 +124,14 @@ impl Relcan {
     /// idle ones.
     ///
     /// At most three actions are appended.
+    ///
+    /// Promise: whatever history the value stands for, and whichever notice can come next, exactly
+    /// the actions of the definition are appended (`relcan_effects`). The value then stands for the
+    /// longer history.
+    ///
+    /// Shown by: `stopped_node_is_removed`, `a_confirmation_is_ignored`,
+    /// `a_late_copy_is_not_withdrawn`, `a_relay_confirms`, `asked_for_with_enough_copies`,
+    /// `relcan_never_falls_back`, `the_origin_keeps_a_timer`.
     pub fn on(&mut self, notice: &Notice, out: &mut Actions)
         requires reads { CanRead self.old notice.now }
         requires room { length out.old.items + 3 ≤ out.old.room }
@@ -127,8 +147,17 @@ impl Relcan {
         self.end_timer(notice.slot, out);
     }
 
-    /// The same, for a list in which there is no action. What the notice calls for is the answer,
-    /// and only what is done when a timer runs out, which comes after it, is appended.
+    /// What RELCAN does at a notice, for a list in which there is no action. What the notice calls
+    /// for is the answer. Only what a timer calls for that runs out, which comes after it, is
+    /// appended.
+    ///
+    /// Promise: whatever history the value stands for, and whichever notice can come next, the
+    /// actions of the answer, and after them those appended, are exactly those of the definition
+    /// (`relcan_effects`). The value then stands for the longer history.
+    ///
+    /// Shown by: `relcan_falls_back`, `a_confirmation_is_ignored`, `a_late_copy_is_not_withdrawn`,
+    /// `a_relay_confirms`, `asked_for_with_enough_copies`, `relcan_never_falls_back`,
+    /// `the_origin_keeps_a_timer`.
     // Hints, here and below: a node makes most of these calls in one place, and at most notices
     // RELCAN has nothing to do, which is then seen without a call.
     #[inline(always)]
@@ -149,6 +178,14 @@ impl Relcan {
 
     /// Whether a timer of the message lies ahead at this node: it runs, and no confirmation was
     /// read.
+    ///
+    /// Promise: whatever history the value stands for, whether the definition says of this message
+    /// of the scenario that a timer of it is ahead (`has_timer_ahead`).
+    ///
+    /// Answers: `true` exactly where that is so, and `false` for a key that no message of the
+    /// scenario has.
+    ///
+    /// Shown by: `relcan_falls_back`.
     pub fn ahead(&self, msg: MsgKey) -> bool
         ensures message { (scenario : ScenarioParts) (past : List NoticeKind) (m : Message) → IsRelcanOf scenario self.now.node past self.now
             → Contains (messages_of scenario.sends) m → message_key m ≡ msg → result ≡ has_timer_ahead scenario m self.now.node past }
@@ -163,7 +200,14 @@ impl Relcan {
         self.is_awaited(&msg)
     }
 
-    /// Whether no timer of any message lies ahead at this node, which is so where none runs.
+    /// Whether no timer runs at this node, so that none of any message lies ahead.
+    ///
+    /// Promise: whatever history the value stands for, after the answer `true` no timer of any
+    /// message of the scenario is ahead.
+    ///
+    /// Answers: `true` only where no timer of any message is ahead. No clause says when it comes.
+    ///
+    /// Shown by: `relcan_timer_is_ahead`.
     pub fn has_nothing_ahead(&self) -> bool
         ensures { result ≡ true → (scenario : ScenarioParts) (past : List NoticeKind) (m : Message) → IsRelcanOf scenario self.now.node past self.now
             → Contains (messages_of scenario.sends) m → has_timer_ahead scenario m self.now.node past ≡ false }
@@ -172,7 +216,13 @@ impl Relcan {
     }
 
     /// The slot in whose turn the oldest timer that runs is due, and `Slot::MAX` where none runs.
-    /// A notice of an earlier slot that brings no frame of RELCAN leads to nothing.
+    /// Until then RELCAN has nothing to do but for its frames.
+    ///
+    /// Promise: whatever history the value stands for, a notice of a slot before the answer that
+    /// brings no frame of RELCAN leads to nothing. The value stands as it is for the longer history
+    /// too.
+    ///
+    /// Shown by: `wakes_one_slot_late`.
     pub fn wake(&self) -> Slot
         ensures rests { (scenario : ScenarioParts) (past : List NoticeKind) (notice : NoticeKind) → IsRelcanOf scenario self.now.node past self.now → length past < result
             → brings_no_relcan notice ≡ true → Rests scenario self.now.node notice past self.now }
@@ -426,7 +476,7 @@ fn reply_to_copy(format: Format, frame: &Frame, is_late: bool) -> Reply
     }
 }
 
-/// Tables of nothing, for so many omissions of a frame and so many messages.
+/// Tables of nothing, for frames that may meet `omit` omissions and for `room` messages.
 fn build_tables(alloc: Global, omit: u32, room: usize) -> Result<Tables, Memory>
     ensures copies { IfOk result (λ tables. IsFresh omit room tables.copies) }
     ensures confirms { IfOk result (λ tables. IsFresh omit room tables.confirms) }

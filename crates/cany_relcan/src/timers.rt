@@ -38,7 +38,7 @@ impl Model for Timers {
 }
 
 impl Timers {
-    /// No timers, with room for so many at once.
+    /// No timers, with room for `room` of them at once.
     pub(crate) fn build(alloc: Global, room: usize) -> Result<Timers, Memory>
         ensures { IfOk result (λ timers. timers ≡ record { running = []; room = room }) }
     {

@@ -10,13 +10,12 @@ ghost use Rattle.cany_text.specs.Replayed.{GivesReportAgain, with_journal};
 ghost use Rattle.cany_text.specs.ReadOff.{AgreeOnWhatIsTold};
 ghost use Rattle.cany_text.specs.Report.{report};
 
-/// Replayed reports: a report's journal, given to the scenario for its own, gives the same report
-/// again.
+/// A report's journal, given to the scenario as its own, gives the same report again. So a report
+/// can be checked by a second run.
 ///
-/// No rule of a run reads the scenario's own journal: whatever that is, or where there is none,
-/// each journal has the same run. So a legal and whole journal, put in the place of the own one,
-/// leaves the scenario legal, is the one that it then follows, has no fault, and leads to the bytes
-/// of the report that it is taken from.
+/// Promise: no run depends on the journal that the scenario brings (`same_run`). A legal and whole
+/// journal, put in the place of the own one of a legal scenario, leaves the scenario legal, is the
+/// one that it follows, and has no fault. The report is then the same (`GivesReportAgain`).
 pub fn replayed_reports()
     ensures same_run { (given : Option (List Step)) (scenario : ScenarioParts) (journal : List Step)
         → run (with_journal given scenario) journal ≡ run scenario journal }
@@ -24,12 +23,14 @@ pub fn replayed_reports()
         → IsWhole scenario journal → GivesReportAgain scenario journal }
 {}
 
-/// Reading off: legal runs of legal scenarios whose reports are equal have the same parameters and
-/// the same journal, each node came to the same incarnation in both, and each incarnation of each
-/// node has the same log, entry by entry, where the payloads of the sends are bytes. So every
-/// delivery, failure sign and view can be read off a report.
+/// What can be read off a report: every delivery, failure sign and view. Two runs of one scenario
+/// with equal reports are one run, since their journals are equal.
 ///
-/// Two runs of one scenario with equal reports are one run, since their journals are equal.
+/// Promise: let two legal runs of legal scenarios have equal reports. Then their parameters, their
+/// journals and the incarnations of each node are equal. So are the logs of each incarnation, where
+/// the payloads of the sends are bytes (`AgreeOnWhatIsTold`).
+///
+/// Shown by: `a_report_tells_of_the_last_incarnation_alone`, `two_nodes_share_a_letter`.
 pub fn what_a_report_tells()
     ensures { (a b : ScenarioParts) (j k : List Step) → IsLegalScenario a → IsLegalScenario b → IsLegal a j → IsLegal b k
         → report a j ≡ report b k → AgreeOnWhatIsTold a j b k }

@@ -9,6 +9,8 @@ use cany_base::{Class, ParamName, Service, Verdict};
 use cany_model::BreakKind;
 
 /// The name of a class, as `ed`.
+///
+/// Promise: the name of the class in texts, of at most 7 bytes.
 #[tactic(auto, unfolding(crate::specs::TextNames::class_name))]
 pub fn class_name(class: Class) -> &'static str
     ensures name { result.now ≡ text.class_name class }
@@ -29,6 +31,8 @@ pub fn class_name(class: Class) -> &'static str
 }
 
 /// The name of a service, as `tot`.
+///
+/// Promise: the name of the service in texts, of at most 3 bytes.
 #[tactic(auto, unfolding(crate::specs::TextNames::service_name))]
 pub fn service_name(service: Service) -> &'static str
     ensures name { result.now ≡ text.service_name service }
@@ -42,6 +46,8 @@ pub fn service_name(service: Service) -> &'static str
 }
 
 /// The name of a verdict, without the nodes that reject, as `partial`.
+///
+/// Promise: the name of the verdict in texts, of at most 7 bytes.
 #[tactic(auto, unfolding(crate::specs::TextNames::verdict_name))]
 pub fn verdict_name(verdict: Verdict) -> &'static str
     ensures name { result.now ≡ text.verdict_name verdict }
@@ -56,6 +62,8 @@ pub fn verdict_name(verdict: Verdict) -> &'static str
 }
 
 /// The name of a parameter that a formula bounds, as `bound`.
+///
+/// Promise: the name of the parameter in texts, of at most 7 bytes.
 #[tactic(auto, unfolding(crate::specs::TextNames::param_name))]
 pub fn param_name(which: ParamName) -> &'static str
     ensures name { result.now ≡ text.param_name which }
@@ -71,6 +79,8 @@ pub fn param_name(which: ParamName) -> &'static str
 }
 
 /// The name of what breaks the fault hypothesis, as `omit`.
+///
+/// Promise: the name of the break in reports, of at most 6 bytes.
 #[tactic(auto, unfolding(crate::specs::ReportLines::break_name))]
 pub fn break_name(kind: BreakKind) -> &'static str
     ensures name { result.now ≡ report.break_name kind }
@@ -84,6 +94,8 @@ pub fn break_name(kind: BreakKind) -> &'static str
 }
 
 /// The name of a table, as `send`.
+///
+/// Promise: the name of the table in texts, of at most 7 bytes.
 #[tactic(auto, unfolding(crate::specs::TextNames::table_name))]
 pub fn table_name(table: TableName) -> &'static str
     ensures name { result.now ≡ text.table_name table }
@@ -100,6 +112,10 @@ pub fn table_name(table: TableName) -> &'static str
 }
 
 /// A key as it stands in a text, as `silence`.
+///
+/// Promise: the key as texts write it, of at most 7 bytes.
+///
+/// Shown by: `a_key_is_called_otherwise`.
 #[tactic(auto, unfolding(crate::specs::TextNames::key_name))]
 pub fn key_name(key: KeyName) -> &'static str
     ensures name { result.now ≡ text.key_name key }

@@ -111,8 +111,8 @@ impl Backlog {
         self.own.get(usize::from(seq)).sent
     }
 
-    /// Takes the next message that is to be asked for in the turn of a slot, if there is one: the
-    /// last one that was asked for was sent, and its place lies `spacing` slots back.
+    /// Takes the next message that is to be asked for in the turn of a slot, if there is one. The
+    /// last one that was asked for must have been sent, and its place lie `spacing` slots back.
     pub(crate) fn next(&mut self, now: Slot, spacing: Slot) -> Option<Given>
         ensures next { result ≡ next_given now spacing self.old }
         ensures after { self.new ≡ after_next now spacing self.old }
@@ -176,7 +176,7 @@ impl Backlog {
     }
 }
 
-/// Whether so many slots have passed since a place, in the turn of a slot.
+/// Whether this number of slots has passed since a place, in the turn of a slot.
 fn is_past(place: Option<Slot>, now: Slot, slots: Slot) -> bool
     ensures { result ≡ is_past now slots place }
 {
@@ -186,7 +186,7 @@ fn is_past(place: Option<Slot>, now: Slot, slots: Slot) -> bool
     }
 }
 
-/// The first slot in whose turn so many slots have passed since a place.
+/// The first slot in whose turn this number of slots has passed since a place.
 fn past_from(place: Option<Slot>, slots: Slot) -> Slot
     ensures { (now : ℕ) → now < result → is_past now slots place ≡ false }
 {

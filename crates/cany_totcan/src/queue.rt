@@ -84,7 +84,7 @@ impl Model for OpenMessages {
 }
 
 impl OpenMessages {
-    /// None are open, and so many may be, whose numbers are below the other number.
+    /// None are open, and `room` of them may be, whose numbers are below the other number.
     pub(crate) fn build(alloc: Global, room: usize, numbers: usize) -> Result<OpenMessages, Memory>
         ensures { IfOk result (λ queue. queue ≡ record { messages = record { items = []; done = 0; room = room; numbers = numbers }; entries = [] }) }
     {

@@ -79,6 +79,15 @@ impl Model for Totcan {
 impl Totcan {
     /// The TOTCAN of a node that has read nothing, or only notices of idle slots, with room for all
     /// messages of the scenario that are by TOTCAN.
+    ///
+    /// Promise: the value stands for each history of idle slots alone, the empty one too, of a node
+    /// that was given no message.
+    ///
+    /// Shown by: `totcan_late_copy_moves_the_place`.
+    ///
+    /// # Errors
+    ///
+    /// `Memory`: out of memory.
     pub fn build(alloc: Global, node: NodeId, scenario: &Scenario) -> Result<Totcan, Memory>
         requires { node < scenario.now.params.nodes }
         ensures { IfOk result (λ totcan. (n : ℕ) → IsTotcanOf scenario.now node (replicate n Idle) [] 0 totcan) }
@@ -101,8 +110,12 @@ impl Totcan {
         })
     }
 
-    /// The node, which is the origin, is given a message to send after those that it was given
-    /// before.
+    /// Gives the node, which is the origin, a message to send after those that it was given before.
+    ///
+    /// Promise: whatever history and messages the value stands for, it stands afterwards for the
+    /// same history, with this message of the scenario behind the others. What was asked for stays.
+    ///
+    /// Shown by: `backlog_first_closes`.
     pub fn send(&mut self, msg: MsgKey, payload: Payload)
         requires room { length self.old.backlog.given < self.old.backlog.room }
         requires own { msg.seq < length self.old.backlog.own }
@@ -121,7 +134,16 @@ impl Totcan {
     /// slot, and then what it delivers. The notices of the slots before the first that a value is
     /// given count as idle ones.
     ///
-    /// At most three actions are appended, besides one for each message that there is room for.
+    /// At most three actions are appended, and one for each message that there is room for.
+    ///
+    /// Promise: whatever history the value stands for, and whichever notice can come next, exactly
+    /// the actions of the definition are appended (`totcan_effects`). The value then stands for the
+    /// longer history, with the same messages of its own.
+    ///
+    /// Shown by: `totcan_late_copy_moves_the_place`, `a_delivery_counts_for_the_message_before`,
+    /// `acceptances_count_from_the_first_place`, `closed_after_partial_stays_closed`,
+    /// `closes_one_slot_early`, `receiver_skips_accept`, `totcan_delivers_at_first_copy`,
+    /// `totcan_keeps_first_place`.
     pub fn on(&mut self, notice: &Notice, out: &mut Actions)
         requires reads { CanRead self.old notice.now }
         requires room { length out.old.items + self.old.queue.room + 3 ≤ out.old.room }
@@ -141,7 +163,14 @@ impl Totcan {
     }
 
     /// In the turn of a slot, after its notice and its scripted sends: asks for the next message
-    /// that the node was given, if the one before was sent and its place lies far enough back.
+    /// that the node was given. It does so if the one before was sent and its place lies far enough
+    /// back.
+    ///
+    /// Promise: whatever history up to this slot the value stands for, exactly the ask for the
+    /// message that the definition says is next is appended, or nothing where none is
+    /// (`next_after`). The value then stands for the same history, with this message asked for.
+    ///
+    /// Shown by: `backlog_first_closes`, `the_next_is_asked_for_before_the_last_was_sent`.
     pub fn next(&mut self, now: Slot, out: &mut Actions)
         requires room { length out.old.items < out.old.room }
         ensures actions { (scenario : ScenarioParts) (past : List NoticeKind) (messages : List Message) (asked : ℕ) →
@@ -165,9 +194,12 @@ impl Totcan {
         }
     }
 
-    /// The first slot in whose turn a message may close, or one of the backlog may be asked for, if
-    /// the node reads nothing but idle slots and is given no message before it: `Slot::MAX` where
-    /// there is none. An idle notice of an earlier slot changes nothing.
+    /// The first slot in whose turn a message may close, or one of the backlog may be asked for.
+    /// Until then the node reads idle slots alone and is given no message. It is `Slot::MAX` where
+    /// there is none.
+    ///
+    /// Promise: whatever history the value stands for, an idle notice of a slot before the answer
+    /// leads to nothing. The value stands as it is for the longer history too.
     pub fn wake(&self) -> Slot
         ensures rests { (scenario : ScenarioParts) (past : List NoticeKind) (messages : List Message) (asked : ℕ) →
             IsTotcanOf scenario self.now.node past messages asked self.now → length past < result →
@@ -179,6 +211,14 @@ impl Totcan {
     }
 
     /// Whether a closing of the message lies ahead at this node: it is open.
+    ///
+    /// Promise: whatever history the value stands for, whether the definition says of this message
+    /// of the scenario that a closing of it is ahead (`has_closing_ahead`).
+    ///
+    /// Answers: `true` exactly where that is so, and `false` for a key that no message of the
+    /// scenario has.
+    ///
+    /// Shown by: `totcan_unaccepted_is_dropped`, `backlog_first_is_open`.
     pub fn ahead(&self, msg: MsgKey) -> bool
         ensures message { (scenario : ScenarioParts) (past : List NoticeKind) (messages : List Message) (asked : ℕ) (m : Message) →
             IsTotcanOf scenario self.now.node past messages asked self.now → Contains (messages_of scenario.sends) m → message_key m ≡ msg →
@@ -190,7 +230,14 @@ impl Totcan {
         self.queue.has(&msg)
     }
 
-    /// Whether no closing of any message lies ahead at this node: none is open.
+    /// Whether no message is open at this node, so that no closing of any lies ahead.
+    ///
+    /// Promise: whatever history the value stands for, after the answer `true` no closing of any
+    /// message of the scenario is ahead.
+    ///
+    /// Answers: `true` only where no closing of any message is ahead. No clause says when it comes.
+    ///
+    /// Shown by: `backlog_first_is_open`.
     pub fn has_nothing_ahead(&self) -> bool
         ensures { result ≡ true → (scenario : ScenarioParts) (past : List NoticeKind) (messages : List Message) (asked : ℕ) (m : Message) →
             IsTotcanOf scenario self.now.node past messages asked self.now → Contains (messages_of scenario.sends) m →
@@ -200,6 +247,13 @@ impl Totcan {
     }
 
     /// Whether this node has asked for the data frame of the message of this key.
+    ///
+    /// Promise: of a message of this node, whether it is one of those given that the node has asked
+    /// for.
+    ///
+    /// Answers: `true` exactly where that is so, and `false` for each message of another node.
+    ///
+    /// Shown by: `backlog_first_closes`.
     pub fn asked(&self, msg: MsgKey) -> bool
         ensures own { (scenario : ScenarioParts) (past : List NoticeKind) (messages : List Message) (asked : ℕ) →
             IsTotcanOf scenario self.now.node past messages asked self.now → msg.origin ≡ self.now.node →
@@ -422,7 +476,7 @@ impl Totcan {
         }
     }
 
-    /// Whether the open message of a data frame is accepted: the node has read a frame that says so
+    /// Whether the open message of a data frame is accepted. The node has read a frame that says so
     /// since its place, or is its origin and has read its own transmission of the data frame.
     fn is_accepted(&self, frame: &Frame, noted: Noted) -> bool
         requires noted { noted ≡ noted_of self.now.acceptances (message_in frame.now) }

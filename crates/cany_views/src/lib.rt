@@ -1,5 +1,5 @@
-//! Views of the site: who asks to join and to leave, what a member starts a cycle with, and how a
-//! vector becomes the view.
+//! Views of the site: which nodes ask to join and to leave, what a member starts a cycle with, and
+//! how a vector becomes the view.
 #![tactic(auto)]
 
 mod asks;

@@ -22,7 +22,7 @@ use cany_message::is_of_class;
 use std::alloc::Global;
 use std::marker::Model;
 
-/// The view of the site at one node, and who has asked to join it and to leave it.
+/// The view of the site at one node, and the nodes that have asked to join it and to leave it.
 ///
 /// This project's own rule. A node outside the view asks to join it, a member asks to leave it. At
 /// the start of a membership cycle a member offers the members that have not failed and do not
@@ -56,8 +56,17 @@ impl Model for Views {
 }
 
 impl Views {
-    /// That of a node that has read nothing. The members are those of the scenario, and nobody has
-    /// asked.
+    /// The value of a node that has read nothing. The members are those of the scenario, and nobody
+    /// has asked.
+    ///
+    /// Promise: the value stands for what a node of the opening knows at first, with the members of
+    /// the scenario.
+    ///
+    /// Shown by: `restart_joins`.
+    ///
+    /// # Errors
+    ///
+    /// `Memory`: out of memory.
     pub fn build(alloc: Global, node: NodeId, scenario: &Scenario) -> Result<Views, Memory>
         requires { node < scenario.now.params.nodes }
         ensures { IfOk result (λ views. IsViewsOf scenario.now node (knowledge_at_first scenario.now.members) views) }
@@ -76,8 +85,13 @@ impl Views {
         })
     }
 
-    /// That of a node which is at first no member, as one that starts again: it knows no member,
-    /// and of nobody that has asked.
+    /// Makes the value that of a node which is at first no member, as one that starts again. It
+    /// knows no member, and nobody that has asked.
+    ///
+    /// Promise: the value stands for what a node knows at first that has no members. Its node, its
+    /// parameters and its scripted asks stay.
+    ///
+    /// Shown by: `restart_joins`.
     pub fn begin_outside(&mut self)
         ensures stands { (scenario : ScenarioParts) (knowledge : Knowledge) → IsViewsOf scenario self.old.node knowledge self.old →
             IsViewsOf scenario self.old.node (knowledge_at_first nobody) self.new }
@@ -91,8 +105,14 @@ impl Views {
         self.leavers = NodeSet::empty();
     }
 
-    /// Who asks in a notice to join the view or to leave it. A join counts where it is got, a leave
-    /// also where it is the node's own.
+    /// Notes the node that asks in a notice to join the view or to leave it. A join counts where it
+    /// is got, a leave also where it is the node's own.
+    ///
+    /// Promise: whatever knowledge the value stands for, it stands afterwards for the knowledge
+    /// after the ask in this notice by the definition (`after_ask`).
+    ///
+    /// Shown by: `restart_joins`, `a_member_that_asks_to_join_is_heard`,
+    /// `the_own_leave_is_not_heard`.
     pub fn hear(&mut self, notice: &Notice)
         requires { CanHear self.old notice.now }
         ensures stands { (scenario : ScenarioParts) (knowledge : Knowledge) → IsViewsOf scenario self.old.node knowledge self.old →
@@ -121,7 +141,11 @@ impl Views {
         }
     }
 
-    /// The view of the site.
+    /// The view of the site, as this node has it.
+    ///
+    /// Promise: the members that the value has, which are nodes of the bus.
+    ///
+    /// Shown by: `restart_joins`.
     pub fn members(&self) -> NodeSet
         ensures members { result ≡ self.now.members }
         ensures below { AllBelow self.now.params.nodes result }
@@ -129,8 +153,16 @@ impl Views {
         self.members
     }
 
-    /// What a member starts a cycle with, where these nodes have failed: the members that have not
-    /// failed and do not leave, and those that join. A node that is no member starts with nothing.
+    /// What a member starts a cycle with: the members that have not failed and do not leave, and
+    /// those that join. `failed` are the nodes that have failed here.
+    ///
+    /// Promise: whatever knowledge the value stands for, if `failed` are its failed nodes, the
+    /// answer is the vector of the definition (`start_of`).
+    ///
+    /// Answers: `None` exactly where the node is no member.
+    ///
+    /// Shown by: `restart_joins`, `a_cycle_starts_with_the_failed`,
+    /// `a_cycle_starts_without_the_joiners`.
     pub fn start(&self, failed: NodeSet) -> Option<NodeSet>
         requires failed { AllBelow self.now.params.nodes failed }
         ensures exact { (scenario : ScenarioParts) (knowledge : Knowledge) → IsViewsOf scenario self.now.node knowledge self.now →
@@ -144,12 +176,20 @@ impl Views {
         }
     }
 
-    /// The vector of a cycle that ends becomes the view. The nodes that are newly admitted, which
-    /// were not in the view before.
+    /// Makes the vector of a cycle that ends the view. The answer is the nodes that are newly
+    /// admitted, which were not in the view before. The number of the view is that of the cycle of
+    /// the slot.
     ///
     /// A node of the new view enters it in its log and withdraws its asks to join. One that is not
     /// in it withdraws its asks to leave. At most one action is appended, and one for each scripted
-    /// ask of the node. The number of the view is that of the cycle of the slot.
+    /// ask of the node.
+    ///
+    /// Promise: the answer is exactly the nodes of the vector that were no members before. Whatever
+    /// knowledge the value stands for, it stands afterwards for that with this view, and exactly
+    /// the actions of the definition are appended (`view_effects`).
+    ///
+    /// Shown by: `restart_joins`, `a_joiner_is_not_forgotten_once_it_is_in`,
+    /// `a_view_is_entered_by_a_node_that_is_not_in_it`, `the_newly_admitted_are_all_of_the_vector`.
     pub fn install(&mut self, ended: Ended, now: Slot, out: &mut Actions) -> NodeSet
         requires vector { AllBelow self.old.params.nodes ended.vector }
         requires now { now < self.old.params.slots }
@@ -174,10 +214,15 @@ impl Views {
         newly
     }
 
-    /// In the turn of a slot in which the node's script asks to join: a node that is no member
-    /// asks.
+    /// In the turn of a slot in which the node's script asks to join: a node that is no member asks
+    /// for the frame.
     ///
     /// At most one action is appended. The frame tells no incarnation: its node does that.
+    ///
+    /// Promise: the ask to join with the number of the slot's cycle is appended exactly where the
+    /// node is no member. The value stays as it is.
+    ///
+    /// Shown by: `restart_joins`, `a_member_asks_to_join`.
     pub fn ask_join(&mut self, now: Slot, out: &mut Actions)
         requires now { now < self.old.params.slots }
         requires room { length out.old.items < out.old.room }
@@ -193,9 +238,14 @@ impl Views {
         }
     }
 
-    /// In the turn of a slot in which the node's script asks to leave: a member asks.
+    /// In the turn of a slot in which the node's script asks to leave: a member asks for the frame.
     ///
     /// At most one action is appended. The frame tells no incarnation: its node does that.
+    ///
+    /// Promise: the ask to leave with the number of the slot's cycle is appended exactly where the
+    /// node is a member. The value stays as it is.
+    ///
+    /// Shown by: `leave_across_a_cycle_start`.
     pub fn ask_leave(&mut self, now: Slot, out: &mut Actions)
         requires now { now < self.old.params.slots }
         requires room { length out.old.items < out.old.room }
@@ -240,8 +290,8 @@ impl Views {
         }
     }
 
-    /// The vector becomes the view: who is in it asks no longer to join, and who is not in it no
-    /// longer to leave.
+    /// The vector becomes the view. A node in it asks no longer to join, and one that is not in it
+    /// no longer to leave.
     fn become_view(&mut self, vector: NodeSet)
         requires { AllBelow self.old.params.nodes vector }
         ensures { self.new ≡ installed vector self.old }

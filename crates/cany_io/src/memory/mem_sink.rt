@@ -27,8 +27,16 @@ impl Model for MemSink {
 }
 
 impl MemSink {
-    /// A sink with room for `room` bytes. `failing` lists the writes that are to fail, counted from
-    /// 1.
+    /// A sink with room for `room` bytes. `failing` lists the writes that fail, counted from 1.
+    ///
+    /// Promise: the sink has this room and this list, no byte is taken, no write was made, and none
+    /// failed.
+    ///
+    /// Shown by: `the_third_write_fails`.
+    ///
+    /// # Errors
+    ///
+    /// `Memory`: out of memory.
     pub fn new(alloc: Global, failing: Vec<u32>, room: usize) -> Result<MemSink, Memory>
         ensures { IfOk result (λ sink. sink
             ≡ record { taken = []; failing = failing.items; room = room; calls = 0; faults = 0 }) }
@@ -41,6 +49,10 @@ impl MemSink {
     }
 
     /// The bytes taken so far.
+    ///
+    /// Promise: the bytes taken so far, in their order.
+    ///
+    /// Shown by: `the_third_write_fails`.
     pub fn taken(&self) -> &[u8]
         ensures { result.now ≡ self.now.taken }
     {
@@ -48,6 +60,10 @@ impl MemSink {
     }
 
     /// How many writes were made.
+    ///
+    /// Promise: the number of writes made.
+    ///
+    /// Shown by: nothing runs it; it has no edit.
     pub fn calls(&self) -> u64
         ensures { result ≡ self.now.calls }
     {
@@ -55,6 +71,10 @@ impl MemSink {
     }
 
     /// How many writes failed.
+    ///
+    /// Promise: the number of writes that failed.
+    ///
+    /// Shown by: `the_third_write_fails`.
     pub fn faults(&self) -> u64
         ensures { result ≡ self.now.faults }
     {
@@ -69,6 +89,16 @@ impl Sink for MemSink {
 
     /// Takes as much of `piece` as there is room for, unless this call is listed or no room is
     /// left.
+    ///
+    /// Promise: it takes as many first bytes of the piece as there is room for, at least one. At an
+    /// error it takes none. The count of calls is one more, and at an error that of faults too, up
+    /// to the last number of 64 bits.
+    ///
+    /// Shown by: `the_third_write_fails`, `each_write_fails_in_turn`, `a_write_is_dropped`.
+    ///
+    /// # Errors
+    ///
+    /// `Failed` exactly at a listed call, or where no room is left.
     fn write(&mut self, piece: &[u8]) -> Result<usize, Failed>
         requires { 0 < length piece.now }
         ensures refused { IsErr result ↔ FailsNext self.old.failing self.old.calls ⊎ (length self.old.taken ≡ self.old.room) }

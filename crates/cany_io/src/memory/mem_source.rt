@@ -20,8 +20,13 @@ impl Model for MemSource {
 }
 
 impl MemSource {
-    /// A source that gives these bytes, from the first on. `failing` lists the reads that are to
-    /// fail, counted from 1.
+    /// A source that gives these bytes, from the first on. `failing` lists the reads that fail,
+    /// counted from 1.
+    ///
+    /// Promise: all of these bytes are left, the source has this list, no read was made, and none
+    /// failed.
+    ///
+    /// Shown by: `the_first_read_fails`.
     pub fn new(bytes: Vec<u8>, failing: Vec<u32>) -> MemSource
         ensures { result ≡ record { left = bytes.items; failing = failing.items; calls = 0; faults = 0 } }
     {
@@ -32,6 +37,10 @@ impl MemSource {
     }
 
     /// How many reads were made.
+    ///
+    /// Promise: the number of reads made.
+    ///
+    /// Shown by: `other_words_read_nothing`.
     pub fn calls(&self) -> u64
         ensures { result ≡ self.now.calls }
     {
@@ -39,6 +48,10 @@ impl MemSource {
     }
 
     /// How many reads failed.
+    ///
+    /// Promise: the number of reads that failed.
+    ///
+    /// Shown by: `the_first_read_fails`.
     pub fn faults(&self) -> u64
         ensures { result ≡ self.now.faults }
     {
@@ -52,6 +65,16 @@ impl Source for MemSource {
     ghost faults = { λ s. s.faults };
 
     /// Fills `buf` as far as there are bytes, unless this call is listed.
+    ///
+    /// Promise: it gives as many of the bytes left as there is room for, and these leave the
+    /// source. At an error all bytes are left. The count of calls is one more, and at an error that
+    /// of faults too, up to the last number of 64 bits.
+    ///
+    /// Shown by: `the_first_read_fails`, `each_read_fails_in_turn`.
+    ///
+    /// # Errors
+    ///
+    /// `Failed` exactly at a listed call.
     fn read(&mut self, buf: &mut [u8]) -> Result<usize, Failed>
         requires { 0 < length buf.old }
         ensures listed { IsErr result ↔ FailsNext self.old.failing self.old.calls }

@@ -22,6 +22,10 @@ impl Model for PlainSource {
 
 impl PlainSource {
     /// A source that gives these bytes, from the first on.
+    ///
+    /// Promise: all of these bytes are left.
+    ///
+    /// Shown by: `texts_within_a_limit_are_read`.
     pub fn new(bytes: Vec<u8>) -> PlainSource
         ensures { result ≡ bytes.items }
     {
@@ -35,6 +39,15 @@ impl Source for PlainSource {
     ghost faults = { λ _. 0 };
 
     /// Fills `buf` as far as there are bytes.
+    ///
+    /// Promise: it gives as many of the bytes left as there is room for, and these leave the
+    /// source.
+    ///
+    /// Shown by: `a_source_that_never_fails`, `texts_within_a_limit_are_read`.
+    ///
+    /// # Errors
+    ///
+    /// It never fails.
     fn read(&mut self, buf: &mut [u8]) -> Result<usize, Failed>
         requires { 0 < length buf.old }
         ensures ok { IsOk result }
