@@ -510,8 +510,8 @@ impl Node {
     ///
     /// Answers: true exactly where a timer or a closing of the message is ahead.
     ///
-    /// Shown by: nothing in the program runs it, which asks by `ahead_by`; its edit shows its
-    /// clauses: `ahead_looks_at_the_first_message`.
+    /// Shown by: nothing in the program runs it; its edit shows its clauses:
+    /// `ahead_looks_at_the_first_message`.
     pub fn ahead(&self, msg: MsgKey) -> bool
         ensures message { (scenario : ScenarioParts) (past : List NoticeKind) → IsNodeOf scenario past self.now →
             (m : Message) → Contains (messages_of scenario.sends) m → message_key m ≡ msg →
