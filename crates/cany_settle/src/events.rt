@@ -118,10 +118,15 @@ fn last_ask(scenario: &Scenario) -> Slot
     )
 }
 
-/// The slot of the last event of a run, of the slots that ran: the greatest of 0, the slots of the
-/// scripted sends, joins and leaves, those at whose end a node stopped, those that carried a frame
-/// and were Lost or Partial, and those that carried a frame of another class than ACCEPT, RHA and
-/// ELS. It takes no memory, and as long as there are slots and asks.
+/// The slot of the last event of a run, of the slots that ran. It is the greatest of 0 and the
+/// slots of these kinds: a scripted send, join or leave; a stop at its end; a frame that was Lost
+/// or Partial; a frame of another class than ACCEPT, RHA and ELS. It takes no memory, and time in
+/// proportion to the slots and the scripted asks.
+///
+/// Promise: the slot is exactly that of the definition, for the slots that ran.
+///
+/// Shown by: `tail_enough`, `tail_too_short`, `life_signs_are_events`, `stops_are_no_events`,
+/// `the_last_for_the_greatest`.
 pub fn last_event(world: &World) -> Slot
     ensures { result ≡ event.last_event world.now.scenario (state_of world.now) }
 {

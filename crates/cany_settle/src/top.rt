@@ -37,6 +37,22 @@ impl OneWord for Tail {
 /// sink, a line at a time. It answers the status of the program, one of those in
 /// `cany_command::status`. The words are the one word `tail`; causes are looked at in this order:
 /// the words, the reading, the text, the journal, the writing.
+///
+/// Promise: at status 0 exactly the text of the tail of the scenario's run was written. The journal
+/// is legal and whole, the run has integrity; within the hypothesis it is safe, and has no open
+/// message if it is long enough. Where no stream fails, words and text decide the status, or it is
+/// 6.
+///
+/// Answers: 0 only where the bytes stand for a scenario whose own journal, if any, is legal and
+/// whole: its text was written. 2 exactly where the words are not the one word `tail`; nothing is
+/// read. 3 only where the bytes stand for no scenario, or its own journal is not legal or not
+/// whole: exactly the line of the first fault was written. 4 only where the source's count of
+/// faults rose. 5 only where the sink's count rose: a prefix of the text or of that line was taken.
+/// 6: out of memory. 7 only where the source has more than 33,554,432 bytes. At 2, 4, 6 and 7
+/// nothing is written. There is no other status.
+///
+/// Shown by: `commands_give_their_answers`, `tail_enough`, `tail_too_short`, `tail_unclaimed`,
+/// `.ci/calls.py`.
 pub fn tail_top<S: Source, K: Sink>(
     alloc: Global,
     words: &[String],
