@@ -30,9 +30,9 @@ use std::alloc::Global;
 ///    that refuses nothing of its own writes `OneWord` instead, and is `OneWordCommand(Name)`.
 /// 3. Its top call is `perform(alloc, &Name, words, source, sink)`, of one word with
 ///    `&OneWordCommand(Name)`. What `perform` promises is what that call promises: `IsPerformed` of
-///    the command's own parts. What success says besides is a clause of its own.
+///    the command's own parts. What success says beyond that is a clause of its own.
 pub trait Command {
-    /// What the words ask for besides the command itself.
+    /// What the words ask for, apart from the command itself.
     type Plan: Drop;
 
     /// Why the command refuses words that are of its form, or a scenario.

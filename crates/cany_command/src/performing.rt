@@ -76,13 +76,13 @@ fn perform_text<C: Command, K: Sink>(
     }
 }
 
-/// Performs a command: takes its words, reads a scenario text from the source, runs the scenario
-/// that the command chooses by that one's own journal or, where it has none, by its round robin
-/// journal, and writes the command's text of the run to the sink. It answers the status of the
-/// program, one of those in `status` or a status of success of the command.
+/// Performs a command: reads a scenario text from the source, runs the scenario that the command
+/// chooses, and writes the command's text of the run to the sink. The run is by the own journal of
+/// the chosen scenario or, where it has none, by its round robin journal.
 ///
-/// Each answer has its cause: `IsPerformed` says which, field by field. Causes are looked at in
-/// this order: the words, the command's refusal of them, the reading, the text, the command's
+/// It answers the status of the program, one of those in `status` or a status of success of the
+/// command. Each answer has its cause: `IsPerformed` says which, field by field. Causes are looked
+/// at in this order: the words, the command's refusal of them, the reading, the text, the command's
 /// refusal of the scenario, the journal, the writing.
 ///
 /// Promise: at success exactly the command's text of the run of the scenario that it chooses was
