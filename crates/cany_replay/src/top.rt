@@ -29,11 +29,13 @@ impl OneWord for Replay {
     }
 }
 
-/// Replays: reads a scenario text from the source, runs the scenario by its own journal or, where
-/// it has none, by its round robin journal, and writes the report to the sink, a page of lines at a
-/// time. It answers the status of the program, one of those in `cany_command::status`. The words
-/// are the one word `replay`; causes are looked at in this order: the words, the reading, the text,
-/// the journal, the writing.
+/// Replays: reads a scenario text from the source, runs the scenario, and writes the report to the
+/// sink, a page of lines at a time. The run is by the scenario's own journal or, where it has none,
+/// by its round robin journal.
+///
+/// It answers the status of the program, one of those in `cany_command::status`. The words are the
+/// one word `replay`. Causes are looked at in this order: the words, the reading, the text, the
+/// journal, the writing.
 ///
 /// Promise: at status 0 exactly the report of the scenario's run was written, by its own journal or
 /// by round robin. That journal is legal and whole, the run has integrity, and within the
