@@ -100,9 +100,9 @@ fn write_nodes<K: Sink>(world: &World, sink: &mut K) -> Result<(), Failed>
 }
 
 /// Writes the text of the world's run, line by line: whether it is within the fault hypothesis, and
-/// for each node the replies to the messages that its present incarnation applied, and the table
-/// that they made. It takes no memory. A run that has not ended has a text too: of what happened so
-/// far.
+/// the replies and the table of each node. The replies are those to the messages that its present
+/// incarnation applied, and the table is what they made. It takes no memory. A run that has not
+/// ended has a text too: of what happened so far.
 ///
 /// Promise: exactly the text of the world's scenario and journal is written, whether the run has
 /// ended or not. At a failure a prefix of it is.

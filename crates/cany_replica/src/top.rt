@@ -31,11 +31,13 @@ impl OneWord for Replica {
     }
 }
 
-/// Keeps a table at each node by the messages that it delivers by TOTCAN: reads a scenario text
-/// from the source, runs the scenario by its own journal or, where it has none, by its round robin
-/// journal, and writes the replies and the tables of the nodes to the sink, a line at a time. It
-/// answers the status of the program, one of those in `cany_command::status`. The words are the one
-/// word `replica`; causes are looked at in this order: the words, the reading, the text, the
+/// Keeps a table at each node by the messages that it delivers by TOTCAN. It reads a scenario text
+/// from the source, runs the scenario, and writes the replies and the tables of the nodes to the
+/// sink, a line at a time. The run is by the scenario's own journal or, where it has none, by its
+/// round robin journal.
+///
+/// It answers the status of the program, one of those in `cany_command::status`. The words are the
+/// one word `replica`. Causes are looked at in this order: the words, the reading, the text, the
 /// journal, the writing.
 ///
 /// Promise: at status 0 exactly the replies and the tables of the scenario's run were written: of
