@@ -15,7 +15,7 @@ pub enum MediaFault {
     /// The fault at `index`, counted from 0, shares a slot with an earlier one of its line.
     #[error("fault {index} shares a slot with an earlier fault of its line")]
     Overlap { index: usize },
-    /// Want of memory, which no contract ties to a cause.
+    /// There was no memory. No contract ties it to a cause.
     #[error("out of memory")]
     Memory,
 }

@@ -17,7 +17,7 @@ pub enum SingleFault {
     /// The scenario would have this number of fault rules, which is more than one can have.
     #[error("{rules} fault rules are more than a scenario can have")]
     TooMany { rules: u64 },
-    /// Want of memory, which no contract ties to a cause.
+    /// There was no memory. No contract ties it to a cause.
     #[error("out of memory")]
     Memory,
 }
