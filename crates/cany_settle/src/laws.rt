@@ -25,13 +25,14 @@ pub fn settling()
         → IsLongEnough scenario (run scenario journal) → AllSettled scenario (run scenario journal) }
 {}
 
-/// Settling sooner: in such a run it is enough that the last scripted send, and the last slot that
-/// carried a frame of another class than those that win over all others, lie `short_tail` slots
-/// before the end. Stops, errors and scripted joins and leaves may come as late as they do.
+/// Settling sooner: in such a run it is enough that the last load lies `short_tail` slots before
+/// the end. The last load is the last scripted send, or the last slot that carried a frame of
+/// another class than those that win over all others. Stops, errors and scripted joins and leaves
+/// may come as late as they do.
 ///
 /// Promise: in such a run every message is settled if the last load lies `short_tail` slots or more
-/// before the end. The last load is the last scripted send, or the last slot that carried a frame
-/// of a class other than ACCEPT, RHA and ELS.
+/// before the end. It asks for no restriction on stops, errors, joins or leaves, but that the run
+/// is within the hypothesis.
 pub fn settling_soon()
     ensures { (scenario : ScenarioParts) (journal : List Step) → IsLegalScenario scenario → scenario.from ≡ 0
         → IsWithin scenario.params (run scenario journal).trace → IsWhole scenario journal

@@ -31,12 +31,14 @@ impl OneWord for Tail {
     }
 }
 
-/// Tells whether a run was long enough: reads a scenario text from the source, runs the scenario by
-/// its own journal or, where it has none, by its round robin journal, and writes the tail, the last
-/// event, whether the run went on for the tail after it, and how many messages are settled, to the
-/// sink, a line at a time. It answers the status of the program, one of those in
-/// `cany_command::status`. The words are the one word `tail`; causes are looked at in this order:
-/// the words, the reading, the text, the journal, the writing.
+/// Tells whether a run was long enough: reads a scenario text from the source, runs the scenario,
+/// and writes the text of the tail to the sink, a line at a time. The text has the tail, the last
+/// event, whether the run went on for the tail after it, and how many messages are settled. The run
+/// is by the scenario's own journal or, where it has none, by its round robin journal.
+///
+/// It answers the status of the program, one of those in `cany_command::status`. The words are the
+/// one word `tail`. Causes are looked at in this order: the words, the reading, the text, the
+/// journal, the writing.
 ///
 /// Promise: at status 0 exactly the text of the tail of the scenario's run was written. The journal
 /// is legal and whole, the run has integrity; within the hypothesis it is safe, and has no open
