@@ -67,7 +67,7 @@ pub trait Command {
     ///
     /// Answers: true exactly where the words are of the command's form.
     ///
-    /// Shown by: `.ci/calls.py`, `other_words_read_nothing`.
+    /// Shown by: `.ci/calls.py`.
     fn are_words(&self, words: &[String]) -> bool
         ensures { IsTrue result ↔ are_words (map string_bytes words.now) };
 
