@@ -98,7 +98,8 @@ impl Command for Check {
 /// journal is not legal or not whole: exactly the line of the first fault was written. 4 only where
 /// the source's count of faults rose. 5 only where the sink's count rose: a prefix of the text or
 /// of that line was taken. 6: out of memory. 7 only where the source has more than 33,554,432
-/// bytes. At 2, 4, 6 and 7 nothing is written. There is no other status.
+/// bytes. At 0, 3, 5, 9 and 10 all was read, at 2, 4, 6 and 7 nothing is written. There is no other
+/// status.
 ///
 /// Shown by: `commands_give_their_answers`, `an_account_is_judged`, `an_account_is_broken`,
 /// `verdict_all_held`, `verdict_order_is_parted`, `verdict_sign_is_open`, `.ci/calls.py`,

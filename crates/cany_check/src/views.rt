@@ -157,8 +157,8 @@ fn find_partings(alloc: Global, rows: &[ViewRow]) -> Result<Vec<ViewParting>, Me
 
 /// Of how many numbers correct nodes hold views, and where those of a number are unequal.
 ///
-/// Promise: exactly how many numbers there are of which correct nodes hold a view, and the first
-/// two unequal views of each number that is apart.
+/// Promise: exactly how many numbers there are of which correct nodes hold a view, and of each
+/// number that is apart the first view and the first that differs from it.
 ///
 /// Shown by: `an_account_is_judged`, `verdict_views_are_apart`, `views_by_place`.
 ///

@@ -130,7 +130,8 @@ fn run_text<R: Threads + Wait + Sync, K: Sink, G: Gate>(
 /// written. 4 only where the source's count of faults rose. 5 only where the sink's count rose: a
 /// prefix of such a report or of that line was taken. 6: out of memory. 7 only where the source has
 /// more than 33,554,432 bytes. 8 only where the count of a gate rose, and the text is none that is
-/// refused. At 2, 4, 6, 7 and 8 nothing is written. There is no other status.
+/// refused. At 0, 3, 5 and 8 all was read, at 2, 4, 6, 7 and 8 nothing is written. There is no
+/// other status.
 ///
 /// Shown by: `other_words_read_nothing`, `a_given_journal_is_refused`, `gates_overlap`,
 /// `a_gate_refuses`, `threads_replay`, `each_read_fails_in_turn`, `each_write_fails_in_turn`,

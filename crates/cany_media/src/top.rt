@@ -173,9 +173,9 @@ impl Command for Media {
 /// stand for no scenario, that of one bus has too many rules, or its journal is not legal or not
 /// whole. Exactly the line of the first of these was written. 4 only where the source's count of
 /// faults rose. 5 only where the sink's count rose: a prefix was taken. 6: out of memory. 7 only
-/// where the source has more than 33,554,432 bytes. At 2, 4, 6 and 7 nothing is written. Where two
-/// faults of a line share a slot, nothing is read, and the status is 3, 5 or 6. There is no other
-/// status.
+/// where the source has more than 33,554,432 bytes. At 0, 3 and 5 all was read, at 2, 4, 6 and 7
+/// nothing is written. But where two faults of a line share a slot, nothing is read, and the status
+/// is 3, 5 or 6. There is no other status.
 ///
 /// Shown by: `commands_give_their_answers`, `one_line_down`, `blind_slot`,
 /// `two_faults_of_one_line_overlap`, `.ci/calls.py`, `the_faults_are_not_written`.

@@ -50,8 +50,8 @@ impl OneWord for Replica {
 /// is read. 3 only where the bytes stand for no scenario, or its own journal is not legal or not
 /// whole: exactly the line of the first fault was written. 4 only where the source's count of
 /// faults rose. 5 only where the sink's count rose: a prefix of the text or of that line was taken.
-/// 6: out of memory. 7 only where the source has more than 33,554,432 bytes. At 2, 4, 6 and 7
-/// nothing is written. There is no other status.
+/// 6: out of memory. 7 only where the source has more than 33,554,432 bytes. At 0, 3 and 5 all was
+/// read, at 2, 4, 6 and 7 nothing is written. There is no other status.
 ///
 /// Shown by: `commands_give_their_answers`, `table_order_decides`, `other_words_read_nothing`,
 /// `.ci/calls.py`.

@@ -184,8 +184,8 @@ fn watch_text<R: Threads + Wait + Sync, K: Sink>(
 /// scenario does not have the node, or its own journal is not legal or not whole. Exactly the line
 /// of the first of these was written. 4 only where the source's count of faults rose. 5 only where
 /// the sink's count rose: a prefix of the text or of that line was taken. 6: out of memory. 7 only
-/// where the source has more than 33,554,432 bytes. At 2, 4, 6 and 7 nothing is written. There is
-/// no other status.
+/// where the source has more than 33,554,432 bytes. At 0, 3 and 5 all was read, at 2, 4, 6 and 7
+/// nothing is written. There is no other status.
 ///
 /// Shown by: `.ci/calls.py`, `watch_one_node`, `watch_two_incarnations`, `watch_no_such_node`,
 /// `a_node_that_is_not_there`, `benches/readers.py`.

@@ -140,8 +140,9 @@ impl World {
     /// journal, and the run is the one after that step. Any other reply leaves the world as it was.
     ///
     /// Answers: `Done` exactly where the step can be made. For a slot: else `Over` exactly where
-    /// all slots ran, else `Lagging` with the least running node that lags. For a turn: `NoNode`,
-    /// `Stopped` or `NothingYet` by the definition.
+    /// all slots ran, else `Lagging` with the least running node that lags. For a turn: else
+    /// `NoNode` exactly where there is no such node, else `Stopped` exactly where it stopped, else
+    /// `NothingYet`.
     ///
     /// Shown by: `.ci/refusals.py`, `a_stopped_node_takes_no_turn`,
     /// `the_first_node_is_named_as_lagging`, `step_always_lagging`, `step_always_nothing_yet`,
