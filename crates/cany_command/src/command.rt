@@ -99,7 +99,7 @@ pub trait Command {
     /// Promise: the scenario is the one that the command's definition chooses for the words of the
     /// plan. At a refusal its line is the one of that definition.
     ///
-    /// Shown by: `blind_slot`, `watch_no_such_node`, `commands_give_their_answers`.
+    /// Shown by: `blind_slot`, `one_line_down`, `commands_give_their_answers`.
     ///
     /// # Errors
     ///

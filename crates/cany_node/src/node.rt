@@ -190,9 +190,9 @@ impl Node {
     }
 
     /// Reads the oldest unread notice of the controller and does what the rules say of what it
-    /// hears: EDCAN, RELCAN, TOTCAN, what it tells of the site, then the scripted sends, joins and
-    /// leaves of the slot, and the next message of the backlog. `out` is where the actions of the
-    /// turn are kept while they are done.
+    /// hears. They speak in this order: EDCAN, RELCAN, TOTCAN, and what the notice tells of the
+    /// site. Then come the scripted sends, joins and leaves of the slot, and the next message of
+    /// the backlog. `out` is where the actions of the turn are kept while they are done.
     ///
     /// Promise: the turn reads the oldest unread notice, as the incarnation hears it. The log and
     /// the waiting frames are then those that the rules of a turn make. A node that stopped, or has

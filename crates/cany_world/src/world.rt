@@ -442,7 +442,8 @@ impl World {
     /// Answers: true exactly where all is read, the origin has asked, stopped or came too late, no
     /// running node waits with a frame of the message, and none has anything of it ahead.
     ///
-    /// Shown by: `.ci/stops.py`, `a_send_counts_as_one_of_the_first_slot`, `backlog_first_is_open`.
+    /// Shown by: `backlog_first_is_open`, `relcan_timer_is_ahead`,
+    /// `a_send_counts_as_one_of_the_first_slot`.
     pub fn settled(&self, index: usize) -> bool
         requires { index < length self.now.scenario.sends }
         ensures { IsSomeAnd (slice_get (messages_of self.now.scenario.sends) index) (λ m. result ≡ is_settled self.now.scenario (state_of self.now) m) }
@@ -474,7 +475,7 @@ impl World {
     ///
     /// Answers: true exactly where the message is settled.
     ///
-    /// Shown by: `backlog_first_is_open`, `backlog_first_closes`, `tail_enough`.
+    /// Shown by: `.ci/stops.py`, `backlog_first_is_open`, `backlog_first_closes`, `tail_enough`.
     pub fn settled_by(&self, index: usize, finished: &FinishedServices) -> bool
         requires index { index < length self.now.scenario.sends }
         requires finished { IsFinished self.now.scenario (state_of self.now) finished.now }
