@@ -35,6 +35,10 @@ impl<'a> Account<'a> {
 
     /// The account of these parts: the messages in file order, the logs by ascending node and then
     /// incarnation, and the signs that running logs tell of, by ascending cycle and then node.
+    ///
+    /// Promise: the account has these parts. It asks that they are in order (`IsOrderly`).
+    ///
+    /// Shown by: `an_account_is_judged`, `verdict_all_held`.
     pub fn of_parts(
         params: Params,
         messages: Vec<MessageRecord>,
@@ -53,6 +57,10 @@ impl<'a> Account<'a> {
     }
 
     /// The parameters of the run.
+    ///
+    /// Promise: the parameters of the account.
+    ///
+    /// Shown by: `an_account_is_judged`, `verdict_all_held`.
     pub fn params(&self) -> &Params
         ensures { result.now ≡ self.now.params }
     {
@@ -60,6 +68,10 @@ impl<'a> Account<'a> {
     }
 
     /// The messages of the scenario, in file order.
+    ///
+    /// Promise: the messages of the account, whose parts are in order.
+    ///
+    /// Shown by: `an_account_is_judged`, `verdict_messages_are_open`.
     pub fn messages(&self) -> &[MessageRecord]
         ensures messages { result.now ≡ self.now.messages }
         ensures orderly { IsOrderly self.now }
@@ -68,6 +80,10 @@ impl<'a> Account<'a> {
     }
 
     /// The logs of the incarnations of the nodes, by ascending node and then incarnation.
+    ///
+    /// Promise: the logs of the account, whose parts are in order.
+    ///
+    /// Shown by: `an_account_is_judged`, `verdict_order_is_parted`.
     pub fn logs(&self) -> &[LogRecord<'a>]
         ensures logs { map log_parts result.now ≡ self.now.logs }
         ensures orderly { IsOrderly self.now }
@@ -76,6 +92,10 @@ impl<'a> Account<'a> {
     }
 
     /// The failure signs that running logs tell of, by ascending cycle and then node.
+    ///
+    /// Promise: the signs of the account, whose parts are in order.
+    ///
+    /// Shown by: `verdict_sign_is_open`, `verdict_sign_at_one_node`.
     pub fn signs(&self) -> &[SignRecord]
         ensures signs { result.now ≡ self.now.signs }
         ensures orderly { IsOrderly self.now }

@@ -1,4 +1,4 @@
-//! Who was taken for failed, of the nodes of an account that ran all the time.
+//! Which nodes of an account were taken for failed, of those that ran all the time.
 ghost use Rattle.std.specs.Prelude.{◌≡◌, ◌&&◌, if◌then◌else◌, length, None, IfOk};
 ghost use Rattle.cany_base.specs.Limits.{most_nodes};
 ghost use Rattle.cany_check.specs.Account.{AccountParts};
@@ -91,6 +91,15 @@ fn accusations_by(
 }
 
 /// The nodes that ran all the time and were taken for failed, ascending.
+///
+/// Promise: exactly the accusations of the definition, ascending: of each node that ran all the
+/// time and was taken for failed, the accusers and the first slot.
+///
+/// Shown by: `an_account_is_judged`, `verdict_views_are_apart`.
+///
+/// # Errors
+///
+/// `Memory`: out of memory.
 pub fn accusations(alloc: Global, account: &Account<'_>) -> Result<Vec<Accusation>, Memory>
     ensures { IfOk result (λ found. found.items ≡ accusations account.now) }
 {

@@ -1,4 +1,4 @@
-//! Who has what the entries of logs tell of, found in one pass over the logs.
+//! Which nodes have what the entries of logs tell of, found in one pass over the logs.
 ghost use Rattle.std.specs.Prelude.{◌≡◌, ◌<◌, ◌++◌, ℕ, Bool, List, [], ◌∷◌, Option, None, filter, length, map, replicate, IfOk};
 ghost use Rattle.cany_base.specs.Nodes.{nobody};
 ghost use Rattle.cany_base.specs.declared.log_entry.LogEntry.{LogEntry as Entry};

@@ -35,6 +35,15 @@ fn unused_by(alloc: Global, world: &World, attempts: &Attempts) -> Result<Vec<Un
 /// then of its stops.
 ///
 /// An entry that is not among them need not have had an effect.
+///
+/// Promise: exactly the entries of the definition, in its order.
+///
+/// Shown by: `an_account_is_judged`, `verdict_entries_that_did_nothing`,
+/// `attempts_that_were_clean`.
+///
+/// # Errors
+///
+/// `Memory`: out of memory.
 pub fn unused(alloc: Global, world: &World) -> Result<Vec<Unused>, Memory>
     requires { has_ended world.now.scenario (state_of world.now) ≡ true }
     ensures { IfOk result (λ found. found.items ≡ unused world.now.scenario (state_of world.now)) }

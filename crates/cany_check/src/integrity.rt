@@ -153,10 +153,20 @@ fn first_wrong_of(
     None
 }
 
-/// The first wrong entry of the log of a correct node, by ascending node and then place: a second
-/// delivery of a message, a delivery of what was not sent by then, a failure sign of a node that
-/// is not there or of a cycle to come, or a view of another cycle. In the account of a run there
-/// is none.
+/// The first wrong entry in the logs of correct nodes, by ascending node and then place. Wrong is a
+/// second delivery of a message, or a delivery of what was not sent by then. So is a failure sign
+/// of a node that is not there or of a cycle to come, and a view of another cycle. In the account
+/// of a run there is none.
+///
+/// Promise: exactly the first wrong entry of the definition, by ascending node and then place.
+///
+/// Answers: `None` exactly where no entry of the log of a correct node is wrong.
+///
+/// Shown by: `an_account_is_judged`, `verdict_all_held`.
+///
+/// # Errors
+///
+/// `Memory`: out of memory.
 pub fn wrong_entry(alloc: Global, account: &Account<'_>) -> Result<Option<EntryAt>, Memory>
     ensures { IfOk result (λ found. found ≡ integrity.wrong_entry account.now) }
 {

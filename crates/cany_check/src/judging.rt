@@ -124,6 +124,15 @@ fn of_messages(messages: &[MessageRecord], told: &[Told]) -> Agreements
 }
 
 /// All that is found of an account.
+///
+/// Promise: the findings are those of the definitions: the first wrong entry, the fates of messages
+/// and signs, the first parting, the views, and the accusations.
+///
+/// Shown by: `an_account_is_judged`, `verdict_all_held`, `verdict_views_are_apart`.
+///
+/// # Errors
+///
+/// `Memory`: out of memory.
 pub fn judge(alloc: Global, account: &Account<'_>) -> Result<Findings, Memory>
     ensures { IfOk result (λ found. AreFindings account.now found) }
 {
@@ -163,6 +172,12 @@ impl Findings {
     ghost use Rattle.cany_check.specs.Findings.{FoundParts};
 
     /// The first wrong entry of a log, if there is one.
+    ///
+    /// Promise: the first wrong entry that was found.
+    ///
+    /// Answers: `None` exactly where none was found.
+    ///
+    /// Shown by: `an_account_is_judged`, `verdict_all_held`.
     pub fn wrong_entry(&self) -> Option<EntryAt>
         ensures { result ≡ self.now.wrong }
     {
@@ -170,6 +185,10 @@ impl Findings {
     }
 
     /// What is told of each message, in the order of the account.
+    ///
+    /// Promise: what was found of each message.
+    ///
+    /// Shown by: `an_account_is_judged`, `verdict_messages_are_open`.
     pub fn messages(&self) -> &[Told]
         ensures { result.now ≡ self.now.messages }
     {
@@ -177,6 +196,10 @@ impl Findings {
     }
 
     /// What is told of each failure sign, in the order of the account.
+    ///
+    /// Promise: what was found of each sign.
+    ///
+    /// Shown by: `verdict_sign_is_open`, `verdict_sign_at_one_node`.
     pub fn signs(&self) -> &[Told]
         ensures { result.now ≡ self.now.signs }
     {
@@ -184,6 +207,12 @@ impl Findings {
     }
 
     /// Where two correct nodes part, if they do.
+    ///
+    /// Promise: the parting that was found.
+    ///
+    /// Answers: `None` exactly where none was found.
+    ///
+    /// Shown by: `an_account_is_broken`, `verdict_order_is_parted`.
     pub fn parting(&self) -> Option<Parting>
         ensures { result ≡ self.now.parting }
     {
@@ -191,6 +220,10 @@ impl Findings {
     }
 
     /// What is found of the views.
+    ///
+    /// Promise: how many numbers of views were found, and which are apart.
+    ///
+    /// Shown by: `an_account_is_judged`, `verdict_views_are_apart`.
     pub fn views(&self) -> &Views
         ensures numbers { result.now.numbers ≡ self.now.numbers }
         ensures apart { result.now.apart.items ≡ self.now.views }
@@ -199,6 +232,10 @@ impl Findings {
     }
 
     /// The nodes that ran all the time and were taken for failed, ascending.
+    ///
+    /// Promise: the accusations that were found.
+    ///
+    /// Shown by: `an_account_is_judged`, `verdict_views_are_apart`.
     pub fn accusations(&self) -> &[Accusation]
         ensures { result.now ≡ self.now.accusations }
     {
@@ -206,6 +243,15 @@ impl Findings {
     }
 
     /// What is judged of a part of the promise.
+    ///
+    /// Promise: of each account with these findings it is the judgement of the definition.
+    ///
+    /// Answers: `Broken` exactly where, by part: an entry is wrong; a message of the service is
+    /// apart; two nodes part; the views of a number are apart; a sign is apart; a node is accused.
+    /// Else `Open` exactly where a message of the service, or a sign, is open. Else `Held`.
+    ///
+    /// Shown by: `verdict_all_held`, `verdict_views_are_apart`, `verdict_sign_is_open`,
+    /// `verdict_messages_are_open`, `always_held`.
     pub fn judgement(&self, part: Part) -> Judgement
         ensures { (a : AccountParts) → AreFindings a self.now → result ≡ judgement a part }
     {
@@ -241,6 +287,13 @@ impl Findings {
     }
 
     /// The status: `BROKEN` where a part is broken, else `OPEN` where one is open, else `DONE`.
+    ///
+    /// Promise: of each account with these findings it is the status of the definition.
+    ///
+    /// Answers: 9 exactly where a part is `Broken`. Else 10 exactly where one is `Open`. Else 0.
+    ///
+    /// Shown by: `verdict_all_held`, `verdict_order_is_parted`, `verdict_sign_is_open`,
+    /// `ten_hides_nine`.
     pub fn status(&self) -> u8
         ensures { (a : AccountParts) → AreFindings a self.now → result ≡ status a }
     {

@@ -1,5 +1,5 @@
-//! The verdict of one run: of each part of the promise whether it held, who has each message and
-//! each failure sign, and which entries of the scenario did nothing.
+//! The verdict of one run: of each part of the promise whether it held, which nodes have each
+//! message and each failure sign, and which entries of the scenario did nothing.
 //!
 //! Verdicts are given of an account, which has what they need of a run and knows no world.
 #![tactic(auto)]

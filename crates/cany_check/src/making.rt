@@ -12,10 +12,19 @@ use cany_base::Memory;
 use cany_world::World;
 use std::alloc::Global;
 
-/// The account of an ended run, whose entries the world lends.
+/// The account of an ended run. The world lends it the entries of the logs.
 ///
 /// It takes memory for the records and, while it is made, for a table of the messages and one of
 /// the failure signs. The time is linear in the slots, the entries, and messages times nodes.
+///
+/// Promise: the account is exactly that of the run.
+///
+/// Shown by: `an_account_is_judged`, `verdict_all_held`, `verdict_messages_are_open`,
+/// `verdict_order_since_a_restart`.
+///
+/// # Errors
+///
+/// `Memory`: out of memory.
 pub fn account_of(alloc: Global, world: &World) -> Result<Account<'_>, Memory>
     requires { has_ended world.now.scenario (state_of world.now) ≡ true }
     ensures { IfOk result (λ account. account ≡ account_of world.now.scenario (state_of world.now)) }

@@ -126,6 +126,17 @@ fn holders_of_messages(alloc: Global, account: &Account<'_>) -> Result<Vec<Holde
 }
 
 /// What is told of each message of the account, in its order.
+///
+/// Promise: exactly what the definition says of each message, in their order: its fate, the nodes
+/// that have it, lack it or had it, and the first and last slot of its deliveries.
+///
+/// Shown by: `an_account_is_judged`, `verdict_order_is_parted`,
+/// `verdict_delivered_by_a_stopped_node`, `verdict_messages_are_open`, `the_origin_does_not_count`,
+/// `a_stopped_node_counts`, `a_late_node_counts`, `open_counts_as_settled`.
+///
+/// # Errors
+///
+/// `Memory`: out of memory.
 pub fn message_fates(alloc: Global, account: &Account<'_>) -> Result<Vec<Told>, Memory>
     ensures { IfOk result (λ told. told.items ≡ message_fates account.now) }
 {

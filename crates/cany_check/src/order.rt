@@ -241,10 +241,21 @@ fn first_parting(
     first_clash(&mut reference, messages, &places, logs, order)
 }
 
-/// Where two correct nodes part, of the messages that both take part since, if two do.
+/// Where two correct nodes part, if two do: of the messages first carried since both take part.
 ///
-/// The second is the first that parts from one before it, in the order in which they came to take
-/// part; the first is the first that it parts from.
+/// The second node is the first that parts from one before it, in the order in which the nodes came
+/// to take part. The first node is the first that it parts from.
+///
+/// Promise: exactly the witness of the definition.
+///
+/// Answers: `None` exactly where no two correct nodes part.
+///
+/// Shown by: `an_account_is_broken`, `verdict_order_is_parted`, `verdict_order_since_a_restart`,
+/// `order_is_never_cut`, `order_of_neighbours`.
+///
+/// # Errors
+///
+/// `Memory`: out of memory.
 pub fn parting(alloc: Global, account: &Account<'_>) -> Result<Option<Parting>, Memory>
     ensures { IfOk result (λ found. found ≡ parting account.now) }
 {

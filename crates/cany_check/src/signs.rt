@@ -129,6 +129,16 @@ impl HasFate for SignRecord {
 }
 
 /// What is told of each failure sign of the account, in its order.
+///
+/// Promise: exactly what the definition says of each sign, in their order: its fate, the nodes that
+/// have it or lack it, and the first and last slot of its entries.
+///
+/// Shown by: `verdict_sign_at_one_node`, `verdict_sign_is_open`, `verdict_order_since_a_restart`,
+/// `a_late_node_counts`.
+///
+/// # Errors
+///
+/// `Memory`: out of memory.
 pub fn sign_fates(alloc: Global, account: &Account<'_>) -> Result<Vec<Told>, Memory>
     ensures { IfOk result (λ told. told.items ≡ sign_fates account.now) }
 {

@@ -57,13 +57,18 @@ fn write_ending<K: Sink>(unused: &[Unused], sink: &mut K) -> Result<(), Failed>
     write_short_line("end", &[], sink)
 }
 
-/// Writes the verdict on an account, line by line: the findings are those of the account, `found`
+/// Writes the verdict on an account, line by line. The findings are those of the account, `found`
 /// is where the run leaves the fault hypothesis first, and `unused` are the entries of its scenario
 /// that did nothing. It takes no memory.
 ///
+/// Promise: exactly the text of this verdict is written, or at a failure a prefix of it.
+///
+/// Shown by: `verdict_views_are_apart`, `verdict_entries_that_did_nothing`,
+/// `each_write_fails_in_turn`, `.ci/calls.py`.
+///
 /// # Errors
 ///
-/// `Failed` only where the sink failed. What it took is then the start of the text.
+/// `Failed` only where the sink's count of faults rose.
 pub fn write_check<K: Sink>(
     account: &Account<'_>,
     findings: &Findings,

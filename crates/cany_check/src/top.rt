@@ -77,12 +77,33 @@ impl Command for Check {
     ghost no_fault = { verdict_is_no_fault };
 }
 
-/// Judges a run: reads a scenario text from the source, runs the scenario by its own journal or,
-/// where it has none, by its round robin journal, and writes the verdict to the sink, a line at a
-/// time: of each part of the promise whether it held, who has each message and each failure sign,
-/// and which entries of the scenario did nothing. It answers the status of the program: one of
-/// those in `cany_command::status`, or `BROKEN` or `OPEN`. The words are the one word `check`;
-/// causes are looked at in this order: the words, the reading, the text, the journal, the writing.
+/// Judges a run: reads a scenario text from the source, runs the scenario, and writes the verdict
+/// to the sink, a line at a time. The verdict says of each part of the promise whether it held,
+/// which nodes have each message and each failure sign, and which entries of the scenario did
+/// nothing. The run is by the scenario's own journal or, where it has none, by its round robin
+/// journal.
+///
+/// It answers the status of the program: one of those in `cany_command::status`, or `BROKEN` or
+/// `OPEN`. The words are the one word `check`. Causes are looked at in this order: the words, the
+/// reading, the text, the journal, the writing.
+///
+/// Promise: at status 0, 9 or 10 exactly the verdict of the scenario's run was written, and the
+/// status is that of the verdict. The journal is legal and whole, the run has integrity, and within
+/// the hypothesis it is safe. Where no stream fails, words and text decide the status, or it is 6.
+///
+/// Answers: 9 exactly where the verdict was written and the promise is not kept in this run
+/// (`KeepsPromise`). 10 exactly where it was written, the promise is kept, and a message or a sign
+/// is open (`IsOpen`). 0 where it was written and neither holds. 2 exactly where the words are not
+/// the one word `check`; nothing is read. 3 only where the bytes stand for no scenario, or its own
+/// journal is not legal or not whole: exactly the line of the first fault was written. 4 only where
+/// the source's count of faults rose. 5 only where the sink's count rose: a prefix of the text or
+/// of that line was taken. 6: out of memory. 7 only where the source has more than 33,554,432
+/// bytes. At 0, 3, 5, 9 and 10 all was read, at 2, 4, 6 and 7 nothing is written. There is no other
+/// status.
+///
+/// Shown by: `commands_give_their_answers`, `an_account_is_judged`, `an_account_is_broken`,
+/// `verdict_all_held`, `verdict_order_is_parted`, `verdict_sign_is_open`, `.ci/calls.py`,
+/// `each_write_fails_in_turn`.
 pub fn check_top<S: Source, K: Sink>(
     alloc: Global,
     words: &[String],

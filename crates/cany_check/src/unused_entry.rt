@@ -8,6 +8,7 @@ pub struct Unused {
     pub entry: UnusedEntry,
 }
 
+/// The kind of the entry, and why it did nothing.
 #[derive(Clone, Copy)]
 pub enum UnusedEntry {
     Send(NoAsk),
@@ -32,7 +33,7 @@ pub enum NoAsk {
 /// Why a fault rule, or a part of it, did nothing. The slot is that in which it would act.
 #[derive(Clone, Copy)]
 pub enum NoFault {
-    /// There were only so many attempts to carry the frame.
+    /// There were only this many attempts to carry the frame.
     Attempts(u64),
     /// There is a rule for the slot of the attempt.
     Ruled(Slot),

@@ -156,6 +156,15 @@ fn find_partings(alloc: Global, rows: &[ViewRow]) -> Result<Vec<ViewParting>, Me
 }
 
 /// Of how many numbers correct nodes hold views, and where those of a number are unequal.
+///
+/// Promise: exactly how many numbers there are of which correct nodes hold a view, and of each
+/// number that is apart the first view and the first that differs from it.
+///
+/// Shown by: `an_account_is_judged`, `verdict_views_are_apart`, `views_by_place`.
+///
+/// # Errors
+///
+/// `Memory`: out of memory.
 pub fn view_partings(alloc: Global, account: &Account<'_>) -> Result<Views, Memory>
     ensures numbers { IfOk result (λ views. views.numbers ≡ length (view_numbers account.now)) }
     ensures apart { IfOk result (λ views. views.apart.items ≡ view_partings account.now) }

@@ -11,6 +11,14 @@ use cany_log::write_report;
 use cany_world::World;
 
 /// Writes the report of a run, and answers the status.
+///
+/// Promise: the status 0 says that exactly the report of the world's scenario and journal was
+/// written. At any answer a prefix of it was.
+///
+/// Answers: 0 where the report was written. 5 only where the sink's count of faults rose. There is
+/// no other answer.
+///
+/// Shown by: `threads_replay`, `each_write_fails_in_turn`.
 pub fn report_run<K: Sink>(world: &World, sink: &mut K) -> u8
     ensures done { result ≡ DONE → Takes (K.taken sink.old) (report world.now.scenario world.now.journal) (K.taken sink.new) }
     ensures write_fault { result ≡ WRITE_FAULT → HasRisen (K.faults sink.old) (K.faults sink.new) }
@@ -23,7 +31,16 @@ pub fn report_run<K: Sink>(world: &World, sink: &mut K) -> u8
     }
 }
 
-/// Refuses, and answers the status.
+/// Refuses, and answers the status: the line of the refusal is written.
+///
+/// Promise: the status 3 says that exactly the line of the refusal was written. At any answer a
+/// prefix of it was.
+///
+/// Answers: 3 where the line was written. 5 only where the sink's count of faults rose. There is no
+/// other answer.
+///
+/// Shown by: `.ci/refusals.py`, `the_write_of_a_refusal_fails`,
+/// `a_refused_text_is_reported_as_done`.
 pub fn refuse<L: RefusalLine, K: Sink>(refusal: &L, sink: &mut K) -> u8
     ensures refused { result ≡ REFUSED → Takes (K.taken sink.old) (L.line refusal.now) (K.taken sink.new) }
     ensures write_fault { result ≡ WRITE_FAULT → HasRisen (K.faults sink.old) (K.faults sink.new) }

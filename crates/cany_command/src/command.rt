@@ -30,9 +30,9 @@ use std::alloc::Global;
 ///    that refuses nothing of its own writes `OneWord` instead, and is `OneWordCommand(Name)`.
 /// 3. Its top call is `perform(alloc, &Name, words, source, sink)`, of one word with
 ///    `&OneWordCommand(Name)`. What `perform` promises is what that call promises: `IsPerformed` of
-///    the command's own parts. What success says besides is a clause of its own.
+///    the command's own parts. What success says beyond that is a clause of its own.
 pub trait Command {
-    /// What the words ask for besides the command itself.
+    /// What the words ask for, apart from the command itself.
     type Plan: Drop;
 
     /// Why the command refuses words that are of its form, or a scenario.
@@ -62,14 +62,26 @@ pub trait Command {
     ghost is_success: { ℕ → Type 0 };
 
     /// Whether the words are of the command's form. It takes no memory.
+    ///
+    /// Promise: the answer is exact, by the command's definition.
+    ///
+    /// Answers: true exactly where the words are of the command's form.
+    ///
+    /// Shown by: `.ci/calls.py`.
     fn are_words(&self, words: &[String]) -> bool
         ensures { IsTrue result ↔ are_words (map string_bytes words.now) };
 
     /// The plan of words that are of the command's form.
     ///
+    /// Promise: the plan is one of these words, and the command refuses none of them. At a refusal
+    /// its line is the one by which the command's definition refuses the words.
+    ///
+    /// Shown by: `.ci/calls.py`, `one_line_down`, `two_faults_of_one_line_overlap`.
+    ///
     /// # Errors
     ///
-    /// `Refused` where the command refuses the words, `Memory` for want of memory.
+    /// `Refused` exactly where the definition refuses the words, if there is memory. `Memory`: out
+    /// of memory.
     fn plan(
         &self,
         alloc: Global,
@@ -81,11 +93,18 @@ pub trait Command {
         ensures refused { IfErr result (λ fault. IfRefused fault (λ refusal.
             words_refusal (map string_bytes words.now) ≡ Some (Self.Refusal.line refusal))) };
 
-    /// The scenario that is run for the one that was read, which is given up where it is another.
+    /// The scenario that is run for the one that was read. The one that was read is dropped where
+    /// another is run.
+    ///
+    /// Promise: the scenario is the one that the command's definition chooses for the words of the
+    /// plan. At a refusal its line is the one of that definition.
+    ///
+    /// Shown by: `blind_slot`, `one_line_down`, `commands_give_their_answers`.
     ///
     /// # Errors
     ///
-    /// `Refused` where the command refuses the scenario, `Memory` for want of memory.
+    /// `Refused` exactly where the definition refuses the scenario, if there is memory. `Memory`:
+    /// out of memory.
     fn scenario(
         &self,
         alloc: Global,
@@ -100,9 +119,18 @@ pub trait Command {
     /// Writes the text of a run that has ended, and answers the status of success. Where it takes
     /// memory, it does so before its first write.
     ///
+    /// Promise: exactly the command's text of the run is written, and the status is the one of
+    /// success that its definition gives. At `Failed` a prefix of the text is written, at `Memory`
+    /// nothing.
+    ///
+    /// Answers: a status of success of the command, the one for this run.
+    ///
+    /// Shown by: `commands_give_their_answers`, `each_write_fails_in_turn`, `verdict_all_held`,
+    /// `verdict_order_is_parted`.
+    ///
     /// # Errors
     ///
-    /// `Failed` only where the sink failed, `Memory` for want of memory.
+    /// `Failed` only where the sink's count of faults rose. `Memory`: out of memory.
     fn answer<K: Sink>(
         &self,
         alloc: Global,

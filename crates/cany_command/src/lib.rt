@@ -1,8 +1,8 @@
 //! What all commands share. `Command` is what a command has to say of itself, `OneWord` the less
 //! that one of one word has to say, and `perform` the frame of every command: each answer with its
 //! cause. Below it stand the pieces, for a command that ends in its own way: the statuses, the test
-//! of words without arguments, the number among the words, reading a scenario, running it by its
-//! own journal or by round robin, writing the report, and refusing.
+//! of words without arguments, and the number among the words. Other pieces read a scenario, run it
+//! by its own journal or by round robin, write the report, and refuse.
 #![tactic(auto)]
 
 mod answer;

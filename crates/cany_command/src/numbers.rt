@@ -24,7 +24,14 @@ fn is_numeral(word: &str, most: usize) -> bool
     1 <= bytes.len() && bytes.len() <= most && are_digits(bytes)
 }
 
-/// The number that a word of 1 to so many digits writes.
+/// The number that a word of 1 to `most` digits writes.
+///
+/// Promise: the number is exactly the one that the word writes, and is below 10 to the power of
+/// `most`.
+///
+/// Answers: `None` exactly where the word is not of 1 to `most` digits.
+///
+/// Shown by: `.ci/calls.py`, `one_line_down`, `watch_one_node`.
 pub fn number_in(word: &str, most: usize) -> Option<u64>
     requires { most ≤ most_digits }
     ensures number { result ≡ number_of most word.now }
@@ -37,7 +44,16 @@ pub fn number_in(word: &str, most: usize) -> Option<u64>
     }
 }
 
-/// The number behind the word of the command, where the words are these two.
+/// The number behind the word of the command, where the words are these two. The number has 1 to
+/// `most` digits.
+///
+/// Promise: the number is exactly the one that the second word writes, and is below 10 to the power
+/// of `most`.
+///
+/// Answers: `None` exactly where the words are not that of the command and one of 1 to `most`
+/// digits.
+///
+/// Shown by: `.ci/calls.py`, `watch_one_node`, `a_write_of_a_summary_fails`.
 pub fn named_number(words: &[String], command: &str, most: usize) -> Option<u64>
     requires { most ≤ most_digits }
     ensures number { result ≡ named_number command.now most (map string_bytes words.now) }

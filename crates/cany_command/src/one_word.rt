@@ -23,10 +23,23 @@ pub trait OneWord {
     ghost text: { RunText };
 
     /// The word.
+    ///
+    /// Promise: the word of the command.
+    ///
+    /// Shown by: `commands_give_their_answers`, `other_words_read_nothing`.
     fn word(&self) -> &'static str
         ensures { result.now ≡ word };
 
     /// Writes the text of a run.
+    ///
+    /// Promise: exactly the command's text of the world's scenario and journal is written, or at a
+    /// failure a prefix of it.
+    ///
+    /// Shown by: `commands_give_their_answers`, `each_write_fails_in_turn`, `nothing_is_reported`.
+    ///
+    /// # Errors
+    ///
+    /// `Failed` only where the sink's count of faults rose.
     fn write<K: Sink>(&self, world: &World, sink: &mut K) -> Result<(), Failed>
         ensures { IsWritten (text world.now.scenario world.now.journal) result
             (K.taken sink.old) (K.taken sink.new) (K.faults sink.old) (K.faults sink.new) };

@@ -76,14 +76,30 @@ fn perform_text<C: Command, K: Sink>(
     }
 }
 
-/// Performs a command: takes its words, reads a scenario text from the source, runs the scenario
-/// that the command chooses by that one's own journal or, where it has none, by its round robin
-/// journal, and writes the command's text of the run to the sink. It answers the status of the
-/// program, one of those in `status` or a status of success of the command.
+/// Performs a command: reads a scenario text from the source, runs the scenario that the command
+/// chooses, and writes the command's text of the run to the sink. The run is by the own journal of
+/// the chosen scenario or, where it has none, by its round robin journal.
 ///
-/// Each answer has its cause: `IsPerformed` says which, field by field. Causes are looked at in
-/// this order: the words, the command's refusal of them, the reading, the text, the command's
+/// It answers the status of the program, one of those in `status` or a status of success of the
+/// command. Each answer has its cause: `IsPerformed` says which, field by field. Causes are looked
+/// at in this order: the words, the command's refusal of them, the reading, the text, the command's
 /// refusal of the scenario, the journal, the writing.
+///
+/// Promise: at success exactly the command's text of the run of the scenario that it chooses was
+/// written. The journal is legal and whole, the run has integrity, and within the hypothesis it is
+/// safe. Where no stream fails, words and text decide the status, or it is 6.
+///
+/// Answers: a status of success of the command where its text was written, the one for this run. 2
+/// exactly where the words are not of its form; nothing is read. 3 only where words, text, scenario
+/// or journal are refused: exactly the line of the first fault was written. 4 only where the
+/// source's count of faults rose. 5 only where the sink's count rose: a prefix was taken. 6: out of
+/// memory. 7 only where the source has more than 33,554,432 bytes. At success, 3 and 5 all was
+/// read, at 2, 4, 6 and 7 nothing is written. But where the command refuses its words, nothing is
+/// read, and the status is 3, 5 or 6.
+///
+/// Shown by: `commands_give_their_answers`, `each_read_fails_in_turn`, `each_write_fails_in_turn`,
+/// `.ci/calls.py`, `.ci/refusals.py`, `refused_words_are_other_words`,
+/// `want_of_memory_is_a_refusal`, `a_failed_sink_is_want_of_memory`.
 pub fn perform<C: Command, S: Source, K: Sink>(
     alloc: Global,
     command: &C,

@@ -15,10 +15,16 @@ use std::alloc::Global;
 
 /// The bytes that the source has, or the status that says why there is no text.
 ///
+/// Promise: the text is all that was left in the source, it has no more than 33,554,432 bytes, and
+/// nothing is left.
+///
+/// Shown by: `reads_of_a_long_text_fail_in_turn`, `short_reads_and_writes`, `.ci/calls.py`,
+/// `too_long_a_text_is_a_read_fault`.
+///
 /// # Errors
 ///
-/// `READ_FAULT` only where the source failed, `TOO_LONG` where it has more bytes than a text can
-/// have, `NO_MEMORY` for want of memory.
+/// `READ_FAULT` only where the source's count of faults rose. `TOO_LONG` only where more than
+/// 33,554,432 bytes are left in the source. `NO_MEMORY`: out of memory. There is no other.
 pub fn text_from<S: Source>(alloc: Global, source: &mut S) -> Result<Vec<u8>, u8>
     // These bytes were all that was left, and nothing is left.
     ensures whole { IfOk result (λ text. IfSome (S.left source.old) (λ bytes. text.items ≡ bytes)) }
@@ -39,18 +45,28 @@ pub fn text_from<S: Source>(alloc: Global, source: &mut S) -> Result<Vec<u8>, u8
     }
 }
 
-/// Whether a text was not read for want of memory, which is no fault of the text.
+/// Whether a text was not read for lack of memory, which is no fault of the text.
+///
+/// Promise: the answer is exact.
+///
+/// Answers: true exactly where the fault is `Memory`.
+///
+/// Shown by: `.ci/refusals.py`, `the_write_of_a_refusal_fails`, `benches/refusals.py`.
 pub fn is_memory(fault: &ScenarioFault) -> bool
     ensures { IsTrue result ↔ (fault.now ≡ Memory) }
 {
     matches!(fault, ScenarioFault::Memory)
 }
 
-/// The scenario of a text, which is then given up, since the run has need of the memory.
+/// The scenario of a text. The text is dropped then, since the run needs the memory.
+///
+/// Promise: the scenario is exactly the one that the bytes stand for.
+///
+/// Shown by: `.ci/refusals.py`, `the_write_of_a_refusal_fails`, `three_services`.
 ///
 /// # Errors
 ///
-/// The first fault of the text, or `Memory` for want of memory.
+/// The first fault of the text, exactly where the definition finds one. `Memory`: out of memory.
 pub fn scenario_in(alloc: Global, text: Vec<u8>) -> Result<Scenario, ScenarioFault>
     ensures ok { IfOk result (λ scenario. scenario_of text.items ≡ Ok scenario) }
     ensures fault { IfErr result (λ fault. fault ≢ Memory → scenario_of text.items ≡ Err fault) }

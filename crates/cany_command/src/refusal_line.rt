@@ -12,6 +12,14 @@ pub trait RefusalLine: Drop {
     ghost line: { Self → List ℕ };
 
     /// Writes the line. It takes no memory.
+    ///
+    /// Promise: exactly the line of the refusal is written, or at a failure a prefix of it.
+    ///
+    /// Shown by: `the_write_of_a_refusal_fails`, `.ci/refusals.py`.
+    ///
+    /// # Errors
+    ///
+    /// `Failed` only where the sink's count of faults rose.
     fn write_line<K: Sink>(&self, sink: &mut K) -> Result<(), Failed>
         ensures { IsWritten (line self.now) result
             (K.taken sink.old) (K.taken sink.new) (K.faults sink.old) (K.faults sink.new) };

@@ -23,12 +23,19 @@ pub enum RunFault {
 }
 
 /// The run of the scenario by its own journal, where it has one, and otherwise by its round robin
-/// journal. The world has a copy of the scenario, and this one is given up before a run by round
-/// robin.
+/// journal. The world has a copy of the scenario. The scenario itself is dropped before a run by
+/// round robin.
+///
+/// Promise: the world has run the scenario by that journal, which is legal and whole. The run has
+/// integrity, and within the hypothesis it is safe.
+///
+/// Shown by: `.ci/refusals.py`, `commands_give_their_answers`,
+/// `the_journal_of_the_text_is_ignored`, `a_refused_journal_is_reported`.
 ///
 /// # Errors
 ///
-/// `Journal` only where its own journal has a fault, `Memory` for want of memory.
+/// `Journal` exactly where the scenario's own journal has a fault, if there is memory: that fault.
+/// `Memory`: out of memory.
 pub fn run(alloc: Global, scenario: Scenario) -> Result<World, RunFault>
     ensures ended { IfOk result (λ world. world ≡ record { scenario = scenario; journal = journal_of scenario }) }
     ensures followed { IfOk result (λ _. own_fault scenario ≡ None) }

@@ -7,9 +7,9 @@ pub const DONE: u8 = 0;
 /// The words are none that the program knows, or cannot be had. Nothing was read or written.
 pub const OTHER_WORDS: u8 = 2;
 
-/// The text stands for no scenario, or a step of the scenario's journal could not be done, or slots
-/// or notices are left at its end, or the command refuses its words or the scenario, as `run` does
-/// where that one has a journal at all. The line of the refusal was written.
+/// The text stands for no scenario, the scenario's own journal is not legal or not whole, or the
+/// command refuses its words or the scenario. `run` refuses each scenario that brings a journal.
+/// The line of the refusal was written.
 pub const REFUSED: u8 = 3;
 
 /// The source failed. Nothing was written.

@@ -135,9 +135,18 @@ pub(crate) fn run_crew<R: Threads + Wait + Sync, G: Gate>(
 /// gate takes longer to answer. The steps that the workers have left are made after them, and ask
 /// the gates too. The call may wait for its threads, which may wait for one another at the lock.
 ///
+/// Promise: the world that is answered has the same scenario and has run to its end, by a legal and
+/// whole journal; each gate's count is as it was. In any case there are as many gates as before,
+/// and no count fell. All of it if the call returns.
+///
+/// Shown by: `gates_overlap_and_one_refuses`, `held_names_another_node`,
+/// `ask_answers_the_opposite`, `gates_come_back_rotated`, `the_steps_that_are_left_are_not_made`.
+/// Nothing runs it to an ended run.
+///
 /// # Errors
 ///
-/// `Held` only where the gate of that node refused a pass, and `Memory` for want of memory.
+/// `Held` only where the count of the gate of the node that it names rose; the world that is handed
+/// back has the same scenario. `Memory`: out of memory. The world is handed back as it was.
 pub fn crew_run<R: Threads + Wait + Sync, G: Gate>(
     rt: &R,
     alloc: Global,

@@ -30,6 +30,14 @@ impl Gate for FreeGate {
 }
 
 /// A free gate for each node that a scenario can have.
+///
+/// Promise: there are as many gates as a scenario can have nodes.
+///
+/// Shown by: `threads_replay`, `.ci/calls.py`.
+///
+/// # Errors
+///
+/// `Memory`: out of memory.
 pub fn free_gates(alloc: Global) -> Result<Vec<FreeGate>, Memory>
     ensures { IfOk result (λ gates. vec_len gates ≡ most_nodes) }
 {
@@ -40,7 +48,16 @@ pub fn free_gates(alloc: Global) -> Result<Vec<FreeGate>, Memory>
     Ok(gates)
 }
 
-/// `crew_run` with gates that never refuse: the run ends, but for want of memory.
+/// `crew_run` with gates that never refuse: the run ends, unless it is out of memory.
+///
+/// Promise: the world that is answered has the same scenario and has run to its end, by a legal and
+/// whole journal. All of it if the call returns.
+///
+/// Shown by: nothing in the program runs it, and no edit changes it.
+///
+/// # Errors
+///
+/// `Memory`: out of memory, and there is no other error. The world is handed back as it was.
 pub fn free_run<R: Threads + Wait + Sync>(
     rt: &R,
     alloc: Global,

@@ -13,6 +13,13 @@ pub trait Gate: Send + Drop {
 
     /// Whether the node may take its next turn, the one that reads this slot or, after a restart, a
     /// later one. The gate may take its time before it answers.
+    ///
+    /// Promise: the count never falls. It stays as it was where the pass is granted.
+    ///
+    /// Answers: true only where the count stayed as it was. false only where the count rose.
+    ///
+    /// Shown by: `gates_overlap_and_one_refuses`, `a_gate_refuses`, `gates_overlap`,
+    /// `threads_replay`.
     fn pass(&mut self, node: NodeId, slot: Slot) -> bool
         ensures count { refusals self.old ≤ refusals self.new }
         ensures passed { result ≡ true → refusals self.new ≡ refusals self.old }

@@ -1,4 +1,4 @@
-//! The status that this command has besides those of all commands.
+//! The status that this command alone has.
 
 /// A gate refused a pass. Nothing was written.
 pub const HELD: u8 = 8;

@@ -109,12 +109,34 @@ fn run_text<R: Threads + Wait + Sync, K: Sink, G: Gate>(
 }
 
 /// Runs by threads: reads a scenario text from the source, runs the scenario by a thread for each
-/// node and one for the bus, and writes the report to the sink, a page of lines at a time. The
-/// journal is the one that the threads made, and the report prints it. It answers the status of the
-/// program, one of those in `status` here and in `cany_command`. The words are the one word `run`;
-/// causes are looked at in this order: the words, the reading, the text, a journal in the scenario,
-/// the gates, the writing. The gate at place i is that of node i, and after the call the counts of
-/// the gates stand at their old places. The call may wait for its threads.
+/// node and one for the bus, and writes the report to the sink. The report is written a page of
+/// lines at a time. Its journal is the one that the threads made, and it prints that journal.
+///
+/// It answers the status of the program, one of those in `status` here and in `cany_command`. The
+/// words are the one word `run`. Causes are looked at in this order: the words, the reading, the
+/// text, a journal in the scenario, the gates, the writing.
+///
+/// The gate at place i is that of node i, and after the call the counts of the gates stand at their
+/// old places. The call may wait for its threads.
+///
+/// Promise: at status 0 the report of a run of the scenario by the journal that it prints was
+/// written, and no count of a gate rose. That journal is legal and whole, the run has integrity,
+/// and within the hypothesis it is safe. Where no stream fails and no gate refuses, words and text
+/// decide the status, or it is 6; all of it if the call returns.
+///
+/// Answers: 0 only where the bytes stand for a scenario without a journal: a report of its run was
+/// written. 2 exactly where the words are not the one word `run`; nothing is read. 3 only where the
+/// bytes stand for no scenario, or the scenario brings a journal: exactly the line of that was
+/// written. 4 only where the source's count of faults rose. 5 only where the sink's count rose: a
+/// prefix of such a report or of that line was taken. 6: out of memory. 7 only where the source has
+/// more than 33,554,432 bytes. 8 only where the count of a gate rose, and the text is none that is
+/// refused. At 0, 3, 5 and 8 all was read, at 2, 4, 6, 7 and 8 nothing is written. There is no
+/// other status.
+///
+/// Shown by: `other_words_read_nothing`, `a_given_journal_is_refused`, `gates_overlap`,
+/// `a_gate_refuses`, `threads_replay`, `each_read_fails_in_turn`, `each_write_fails_in_turn`,
+/// `.ci/calls.py`, `top_always_held`, `top_always_refused`, `top_always_read_fault`,
+/// `top_always_write_fault`, `benches/refusals.py`.
 pub fn run_top<R: Threads + Wait + Sync, S: Source, K: Sink, G: Gate>(
     rt: &R,
     alloc: Global,

@@ -71,6 +71,14 @@ fn put_entry<const ROOM: usize>(line_buffer: &mut LineBuffer<ROOM>, entry: &LogE
 }
 
 /// Writes the line of an entry of a log. It takes no memory.
+///
+/// Promise: exactly the line of the entry is written, or at a failure a prefix of it.
+///
+/// Shown by: `watch_one_node`, `watch_two_incarnations`.
+///
+/// # Errors
+///
+/// `Failed` only where the sink's count of faults rose.
 pub fn write_entry<K: Sink>(entry: &LogEntry, sink: &mut K) -> Result<(), Failed>
     ensures { IsWritten (entry_line entry.now) result
         (K.taken sink.old) (K.taken sink.new) (K.faults sink.old) (K.faults sink.new) }

@@ -90,9 +90,18 @@ fn write_row<const ROOM: usize, K: Sink>(
     write_whole(sink, line_buffer.as_slice())
 }
 
-/// Writes a line that begins with these words, by one call of the sink where it takes all. A line
-/// has at most [`MOST_LINE_BYTES`] bytes, its line feed included. It takes no memory. `Failed`
-/// comes only where the sink fails; what it took then is a beginning of the line.
+/// Writes a line that begins with these words, by one call of the sink where the sink takes all. A
+/// line has at most [`MOST_LINE_BYTES`] bytes with its line feed. It takes no memory.
+///
+/// Promise: exactly the line of the words and the fields is written, or at a failure a prefix of
+/// it.
+///
+/// Shown by: `each_write_fails_in_turn`, `the_fields_of_a_line_are_reversed`,
+/// `a_set_is_printed_without_its_greatest_nodes`.
+///
+/// # Errors
+///
+/// `Failed` only where the sink's count of faults rose.
 pub fn write_line<K: Sink>(
     words: &'static str,
     fields: &[Field],
@@ -106,8 +115,18 @@ pub fn write_line<K: Sink>(
 }
 
 /// As [`write_line`], of a line of at most [`SHORT_LINE_BYTES`] bytes. Lines that a text has many
-/// of are short: the bytes of a line buffer are cleared before it is filled, which for a long one
-/// costs as much as filling it.
+/// of are short. The bytes of a line buffer are cleared before it is filled, and for a long buffer
+/// that costs as much as filling it.
+///
+/// Promise: exactly the line of the words and the fields is written, or at a failure a prefix of
+/// it.
+///
+/// Shown by: `each_write_fails_in_turn`, `tail_enough`, `table_order_decides`,
+/// `the_fields_of_a_line_are_reversed`.
+///
+/// # Errors
+///
+/// `Failed` only where the sink's count of faults rose.
 pub fn write_short_line<K: Sink>(
     words: &'static str,
     fields: &[Field],

@@ -28,8 +28,16 @@ fn write_journal_given<K: Sink>(sink: &mut K) -> Result<(), Failed>
     write_line("refused journal given to run", &[], sink)
 }
 
-/// Writes the line of a refusal. It takes no memory. Want of memory is no fault of the text and has
-/// no line: nothing is written.
+/// Writes the line of a refusal. It takes no memory. That there was no memory is no fault of the
+/// text and has no line: nothing is written.
+///
+/// Promise: exactly the line of the refusal is written, or at a failure a prefix of it.
+///
+/// Shown by: `.ci/refusals.py`, `the_write_of_a_refusal_fails`, `empty_text`, `refused_journal`.
+///
+/// # Errors
+///
+/// `Failed` only where the sink's count of faults rose.
 pub fn write_refusal<K: Sink>(refusal: &Refusal, sink: &mut K) -> Result<(), Failed>
     ensures { IsWritten (refusal_line refusal.now) result
         (K.taken sink.old) (K.taken sink.new) (K.faults sink.old) (K.faults sink.new) }

@@ -55,6 +55,16 @@ fn write_nodes_and_messages<K: Sink>(
 
 /// Writes the report of the world's run, a page of lines at a time. It takes no memory. A run that
 /// has not ended has a report too: of what happened so far.
+///
+/// Promise: exactly the report of the world's scenario and journal is written, whether the run has
+/// ended or not. At a failure a prefix of it is.
+///
+/// Shown by: `commands_give_their_answers`, `each_write_fails_in_turn`, `short_reads_and_writes`,
+/// `message_always_open`, `journal_lines_of_63_steps`, `a_stop_in_an_idle_slot_is_left_out`.
+///
+/// # Errors
+///
+/// `Failed` only where the sink's count of faults rose.
 pub fn write_report<K: Sink>(world: &World, sink: &mut K) -> Result<(), Failed>
     ensures { IsWritten (report world.now.scenario world.now.journal) result
         (K.taken sink.old) (K.taken sink.new) (K.faults sink.old) (K.faults sink.new) }

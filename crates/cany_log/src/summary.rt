@@ -124,8 +124,15 @@ fn open_count(world: &World) -> usize
     world.scenario().sends().len() - settled_count(world)
 }
 
-/// Writes how many messages are settled, and how many are not. It takes no memory. `Failed` comes
-/// only where the sink fails; what it took then is a beginning of the line.
+/// Writes how many messages are settled, and how many are not. It takes no memory.
+///
+/// Promise: exactly the line of these two numbers is written, or at a failure a prefix of it.
+///
+/// Shown by: `tail_enough`, `tail_too_short`, `a_write_of_a_summary_fails`.
+///
+/// # Errors
+///
+/// `Failed` only where the sink's count of faults rose.
 #[tactic(auto, unfolding(crate::specs::Summary::settled_line))]
 pub fn write_settled<K: Sink>(world: &World, sink: &mut K) -> Result<(), Failed>
     ensures { IsWritten (summary.settled_line world.now.scenario (state_of world.now)) result
@@ -172,6 +179,16 @@ fn write_ending<K: Sink>(world: &World, sink: &mut K) -> Result<(), Failed>
 
 /// Writes the summary of the run of a storm, line by line. It takes no memory. A run that has not
 /// ended has a summary too: of what happened so far.
+///
+/// Promise: exactly the summary of the number and of the world's scenario and journal is written,
+/// whether the run has ended or not. At a failure a prefix of it is.
+///
+/// Shown by: `.ci/calls.py`, `a_write_of_a_summary_fails`,
+/// `lost_slots_without_a_frame_are_counted`.
+///
+/// # Errors
+///
+/// `Failed` only where the sink's count of faults rose.
 pub fn write_summary<K: Sink>(world: &World, number: u32, sink: &mut K) -> Result<(), Failed>
     ensures { IsWritten (summary.summary number world.now.scenario world.now.journal) result
         (K.taken sink.old) (K.taken sink.new) (K.faults sink.old) (K.faults sink.new) }

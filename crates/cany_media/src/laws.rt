@@ -15,6 +15,9 @@ ghost use Rattle.cany_media.specs.Single.{single_bus};
 ///
 /// It asks for nothing of the scenario, of the plan or of the journal. So what is promised of runs
 /// is promised of runs over two media.
+///
+/// Promise: the run over two lines, by every journal of every scenario and for all faults, is the
+/// run of the scenario of one bus by that journal.
 pub fn one_bus()
     ensures { (scenario : ScenarioParts) (plan : List FaultParts) (journal : List Step)
         → media_run scenario plan journal ≡ run (single_bus scenario plan) journal }
@@ -22,6 +25,9 @@ pub fn one_bus()
 
 /// One whole line: in a slot that has one, whatever the nodes send at a bit, each of them reads the
 /// level of one bus.
+///
+/// Promise: on a bus of at most 64 nodes, in a slot with a whole line, each node reads the level of
+/// one bus at a bit, whatever the nodes send.
 pub fn one_level()
     ensures { (nodes : ℕ) (lines : Line × Line) (sent : ℕ → Bool) (i : ℕ) → nodes ≤ most_nodes → i < nodes
         → has_whole nodes lines ≡ true → level_at lines nodes sent i ≡ bus_level nodes sent }
@@ -29,6 +35,9 @@ pub fn one_level()
 
 /// Failures of one line at a time change nothing: where each slot has a whole line, the run over
 /// two media is the run of the scenario itself.
+///
+/// Promise: where each slot of the run has a whole line, the run over two lines is the run of the
+/// scenario itself.
 pub fn one_line_is_enough()
     ensures { (scenario : ScenarioParts) (plan : List FaultParts) (journal : List Step)
         → ((slot : ℕ) → slot < scenario.params.slots → has_whole scenario.params.nodes (lines_at plan slot) ≡ true)

@@ -1,6 +1,6 @@
-//! A bus of two lines that fail one at a time or together, and the command `media`: what is planned
-//! for the lines, what comes of a slot over them, and the scenario of one bus whose run is that
-//! over both.
+//! A bus of two lines that fail one at a time or together, and the command `media`. Here stand what
+//! is planned for the lines, what comes of a slot over them, and the scenario of one bus whose run
+//! is that over both.
 #![tactic(auto)]
 
 mod fault_words;

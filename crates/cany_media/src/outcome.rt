@@ -24,7 +24,16 @@ pub(crate) fn has_whole(lines: (Line, Line), nodes: u8) -> bool
     lines.0.is_whole(nodes) || lines.1.is_whole(nodes)
 }
 
-/// Arbitration over the offers of one slot, on a bus of so many nodes with these two lines.
+/// Arbitration over the offers of one slot, on a bus of `nodes` nodes with these two lines.
+///
+/// Promise: where nobody offers a frame, the answer says so. Else its frame and senders are those
+/// of arbitration, and it tells whether a line is whole.
+///
+/// Answers: `Idle` exactly where nobody offers a frame. `Parted` exactly where a frame is offered
+/// and no line is whole. Else `Joined`.
+///
+/// Shown by: nothing in the program runs it; its edits show its clauses:
+/// `one_line_down_loses_the_frame`, `a_split_of_all_nodes_parts_them`.
 pub fn levels(offers: &Offers, lines: (Line, Line), nodes: u8) -> MediaOutcome
     ensures { IsMediaOutcome offers.now lines nodes result }
 {

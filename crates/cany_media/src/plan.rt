@@ -15,7 +15,7 @@ pub enum MediaFault {
     /// The fault at `index`, counted from 0, shares a slot with an earlier one of its line.
     #[error("fault {index} shares a slot with an earlier fault of its line")]
     Overlap { index: usize },
-    /// Want of memory, which no contract ties to a cause.
+    /// There was no memory. No contract ties it to a cause.
     #[error("out of memory")]
     Memory,
 }
@@ -63,10 +63,16 @@ impl Model for MediaPlan {
 impl MediaPlan {
     /// The plan of these faults.
     ///
+    /// Promise: the plan has exactly these faults, and none of them shares a slot with an earlier
+    /// one of its line.
+    ///
+    /// Shown by: `one_line_down`, `blind_slot`, `two_faults_of_one_line_overlap`,
+    /// `a_fault_may_begin_where_another_ends`, `a_fault_is_entered_for_the_other_line`.
+    ///
     /// # Errors
     ///
-    /// `Overlap` where a fault shares a slot with an earlier one of its line, `Memory` for want of
-    /// memory.
+    /// `Overlap` exactly where a fault shares a slot with an earlier one of its line, if there is
+    /// memory: the place of the first such fault. `Memory`: out of memory.
     pub fn build(alloc: Global, faults: &[LineFault]) -> Result<MediaPlan, MediaFault>
         ensures ok { IfOk result (λ plan. plan ≡ faults.now) }
         ensures none { OnOk result (first_overlap faults.now ≡ None) }
@@ -83,6 +89,10 @@ impl MediaPlan {
     }
 
     /// The faults, in the order in which they were given.
+    ///
+    /// Promise: the faults of the plan, in their order.
+    ///
+    /// Shown by: `one_line_down`, `blind_slot`.
     pub fn faults(&self) -> &[LineFault]
         ensures { result.now ≡ self.now }
     {
@@ -90,6 +100,11 @@ impl MediaPlan {
     }
 
     /// How the two lines are in a slot.
+    ///
+    /// Promise: of each line whether it is whole in the slot, down or split, as the fault that
+    /// covers the slot says.
+    ///
+    /// Shown by: `blind_slot`, `one_line_down`, `a_line_is_whole_in_the_last_slot_of_its_fault`.
     pub fn lines(&self, slot: Slot) -> (Line, Line)
         ensures { result ≡ lines_at self.now slot }
     {

@@ -17,7 +17,7 @@ pub enum SingleFault {
     /// The scenario would have this number of fault rules, which is more than one can have.
     #[error("{rules} fault rules are more than a scenario can have")]
     TooMany { rules: u64 },
-    /// Want of memory, which no contract ties to a cause.
+    /// There was no memory. No contract ties it to a cause.
     #[error("out of memory")]
     Memory,
 }
@@ -144,10 +144,16 @@ fn copied_journal(alloc: Global, scenario: &Scenario) -> Result<Option<Vec<Step>
 /// The scenario of one bus whose run by any journal is the run over two media of this scenario
 /// (`laws::one_bus`): in each slot without a whole line the frame is lost.
 ///
+/// Promise: the scenario is exactly that of one bus, by the definition, and it has no more rules
+/// than a scenario can have.
+///
+/// Shown by: `one_line_down`, `blind_slot`, `blind_slots_are_counted_once_too_often`,
+/// `the_stops_of_a_replaced_rule_are_dropped`.
+///
 /// # Errors
 ///
-/// `TooMany` where it would have more fault rules than a scenario can have, `Memory` for want of
-/// memory.
+/// `TooMany` exactly where that scenario would have more rules than a scenario can have, if there
+/// is memory: their number. `Memory`: out of memory.
 pub fn single(alloc: Global, scenario: &Scenario, plan: &MediaPlan) -> Result<Scenario, SingleFault>
     ensures ok { IfOk result (λ one. one ≡ single_bus scenario.now plan.now) }
     ensures few { OnOk result (length (single_rules scenario.now plan.now) ≤ most_rules) }

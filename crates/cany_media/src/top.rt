@@ -154,12 +154,31 @@ impl Command for Media {
 }
 
 /// Runs over two media: takes the faults of the lines from the words, reads a scenario text from
-/// the source, runs the scenario of one bus whose run is that over both lines, by its own journal
-/// or, where it has none, by its round robin journal, and writes a line for each fault and the
-/// report of the run to the sink. It answers the status of the program, one of those in
-/// `cany_command::status`. The words are `media` and any number of words `LINE:FROM-TO:down` and
-/// `LINE:FROM-TO:split:SET`; causes are looked at in this order: the words, faults that share a
-/// slot, the reading, the text, too many slots without a whole line, the journal, the writing.
+/// the source, and runs the scenario of one bus that stands for both lines. It writes a line for
+/// each fault and the report of the run to the sink. The run is by the scenario's own journal or,
+/// where it has none, by its round robin journal.
+///
+/// It answers the status of the program, one of those in `cany_command::status`. The words are
+/// `media` and any number of words `LINE:FROM-TO:down` and `LINE:FROM-TO:split:SET`. Causes are
+/// looked at in this order: the words, faults that share a slot, the reading, the text, too many
+/// slots without a whole line, the journal, the writing.
+///
+/// Promise: at status 0 a line for each fault and the report of the scenario of one bus were
+/// written, exactly. Its run is the run over two lines; its journal is legal and whole, the run has
+/// integrity, and within the hypothesis it is safe. Where no stream fails, words and text decide
+/// the status, or it is 6.
+///
+/// Answers: 0 where these lines were written. 2 exactly where the words are not `media` and then
+/// faults of lines; nothing is read. 3 only where two faults of a line share a slot, the bytes
+/// stand for no scenario, that of one bus has too many rules, or its journal is not legal or not
+/// whole. Exactly the line of the first of these was written. 4 only where the source's count of
+/// faults rose. 5 only where the sink's count rose: a prefix was taken. 6: out of memory. 7 only
+/// where the source has more than 33,554,432 bytes. At 0, 3 and 5 all was read, at 2, 4, 6 and 7
+/// nothing is written. But where two faults of a line share a slot, nothing is read, and the status
+/// is 3, 5 or 6. There is no other status.
+///
+/// Shown by: `commands_give_their_answers`, `one_line_down`, `blind_slot`,
+/// `two_faults_of_one_line_overlap`, `.ci/calls.py`, `the_faults_are_not_written`.
 pub fn media_top<S: Source, K: Sink>(
     alloc: Global,
     words: &[String],

@@ -88,7 +88,16 @@ impl Model for Node {
 
 impl Node {
     /// An incarnation of a node of the scenario that has read nothing. That of the opening may
-    /// read, a later one waits.
+    /// read; a later one waits.
+    ///
+    /// Promise: the incarnation has the given node and number, and waits for a run of the scenario.
+    /// The one of number 0 stands for a node of the scenario that has read nothing.
+    ///
+    /// Shown by: `seats_by_hand`, `restart_joins`.
+    ///
+    /// # Errors
+    ///
+    /// `Memory`: out of memory.
     pub fn build(alloc: Global, node: NodeId, inc: u8, scenario: &Scenario) -> Result<Node, Memory>
         requires node { node < scenario.now.params.nodes }
         requires inc { inc ≤ most_restarts_of_node }
@@ -142,6 +151,13 @@ impl Node {
     /// The incarnation begins, after a restart at the end of this slot. It has heard nothing in the
     /// slots so far, is no member, and takes part only `bound + lag` slots later, in vectors from
     /// the first membership cycle on that does not start before.
+    ///
+    /// Promise: the incarnation stands for a history of idle slots up to and with that of the
+    /// restart, in the scenario as it follows it. It keeps its numbers, and takes part in the
+    /// vectors of the first cycle that starts in its first slot or later.
+    ///
+    /// Shown by: `restart_joins`, `restart_hears_again`, `fifteen_restarts`,
+    /// `a_restart_between_two_copies`.
     pub fn begin(&mut self, restart: Slot)
         requires { CanBegin self.old restart }
         ensures stands { (scenario : ScenarioParts) (inc : Incarnation) → inc.number ≡ self.old.inc →
@@ -174,9 +190,21 @@ impl Node {
     }
 
     /// Reads the oldest unread notice of the controller and does what the rules say of what it
-    /// hears: EDCAN, RELCAN, TOTCAN, what it tells of the site, then the scripted sends, joins and
-    /// leaves of the slot, and the next message of the backlog. `out` is where the actions of the
-    /// turn are kept while they are done.
+    /// hears. They speak in this order: EDCAN, RELCAN, TOTCAN, and what the notice tells of the
+    /// site. Then come the scripted sends, joins and leaves of the slot, and the next message of
+    /// the backlog. `out` is where the actions of the turn are kept while they are done.
+    ///
+    /// Promise: the turn reads the oldest unread notice, as the incarnation hears it. The log and
+    /// the waiting frames are then those that the rules of a turn make. A node that stopped, or has
+    /// nothing to read, stays as it is, and so does its controller.
+    ///
+    /// Answers: `Stopped` exactly where the controller stopped, with the slot. Else `NothingYet`
+    /// exactly where all was read, with the next slot to read. Else `Turned`, with the slot whose
+    /// notice was read.
+    ///
+    /// Shown by: `seats_by_hand`, `a_stopped_node_takes_no_turn`,
+    /// `turn_skips_or_reads_two_reading`, `turn_skips_or_reads_two_skipping`,
+    /// `a_due_send_waits_for_an_edcan_frame`, `the_incarnation_is_not_stamped`.
     pub fn turn(&mut self, ctl: &mut Controller, out: &mut Actions) -> TurnReply
         requires { CanTurn self.old ctl.old out.old }
         ensures reply { result ≡ reply_of ctl.old }
@@ -378,8 +406,15 @@ impl Node {
     /// The first slot, from the next one that it reads on, in whose turn an idle notice may lead to
     /// something. Before it the incarnation can rest.
     ///
-    /// It may be too early: a turn then does nothing. It is found out in each turn that is not
-    /// passed over.
+    /// It may be too early: a turn then does nothing. Each turn that is not passed over finds it
+    /// out anew.
+    ///
+    /// Promise: in each idle slot before the answer, from the next that it reads on, the
+    /// incarnation does nothing and stays as it is, but for the number of notices it has read. No
+    /// clause says that the answer is as late as it can be.
+    ///
+    /// Shown by: `a_started_timer_is_not_noted`, `wake_leaves_out_the_scripted_sends`,
+    /// `relcan_falls_back`, `a_long_journal_repeats`.
     pub fn wake(&self) -> Slot
         ensures rests { RestsUntil result self.now }
     {
@@ -408,7 +443,13 @@ impl Node {
         sends.min(self.joins.wake()).min(self.leaves.wake())
     }
 
-    /// The incarnation makes no turn in so many idle slots, in which it has nothing to do.
+    /// The incarnation makes no turn in this many idle slots, in which it has nothing to do.
+    ///
+    /// Promise: only the number of notices it has read changes, by the number of the slots. Where
+    /// all these slots lie before `wake` and before the end of the run, the incarnation stands for
+    /// its history with these idle slots.
+    ///
+    /// Shown by: `nothing_sent`, `tail_enough`, `a_long_journal_repeats`.
     pub fn rest(&mut self, slots: u64)
         requires { self.old.read + slots < 2 ^ 64 }
         ensures state { self.new ≡ record self.old { read = self.old.read + slots } }
@@ -419,6 +460,10 @@ impl Node {
     }
 
     /// The first slot in which the incarnation takes part. That of the opening takes part in all.
+    ///
+    /// Promise: the first slot in which the incarnation takes part.
+    ///
+    /// Shown by: `verdict_order_since_a_restart`, `restart_hears_again`.
     pub fn from(&self) -> Slot
         ensures { result ≡ self.now.from }
     {
@@ -426,6 +471,10 @@ impl Node {
     }
 
     /// The log, oldest entry first.
+    ///
+    /// Promise: the log of each history that the incarnation stands for.
+    ///
+    /// Shown by: `three_services`, `restart_hears_again`.
     pub fn log(&self) -> &[LogEntry]
         ensures { result.now ≡ self.now.log }
     {
@@ -433,6 +482,15 @@ impl Node {
     }
 
     /// Whether the node is the origin of a message of this key and has asked for its data frame.
+    ///
+    /// Promise: the answer is exact for a message of the scenario whose origin is this node. Where
+    /// no message of this node has the key, it is false.
+    ///
+    /// Answers: true exactly where the node is the origin of the message and has asked for its data
+    /// frame.
+    ///
+    /// Shown by: `three_services`, `backlog_first_is_open`,
+    /// `a_send_of_the_pause_counts_as_asked_for`.
     pub fn asked(&self, msg: MsgKey) -> bool
         ensures sends { (scenario : ScenarioParts) (past : List NoticeKind) → IsNodeOf scenario past self.now →
             (m : Message) → Contains (messages_of scenario.sends) m → message_key m ≡ msg → m.origin ≡ self.now.node →
@@ -446,6 +504,14 @@ impl Node {
 
     /// Whether something of the message of this key is ahead at the node: a timer of RELCAN, or a
     /// closing of TOTCAN.
+    ///
+    /// Promise: the answer is exact for a message of the scenario. Where no message has the key, it
+    /// is false.
+    ///
+    /// Answers: true exactly where a timer or a closing of the message is ahead.
+    ///
+    /// Shown by: nothing in the program runs it; its edit shows its clauses:
+    /// `ahead_looks_at_the_first_message`.
     pub fn ahead(&self, msg: MsgKey) -> bool
         ensures message { (scenario : ScenarioParts) (past : List NoticeKind) → IsNodeOf scenario past self.now →
             (m : Message) → Contains (messages_of scenario.sends) m → message_key m ≡ msg →
@@ -462,7 +528,15 @@ impl Node {
         self.totcan.ahead(key) || self.relcan.ahead(msg)
     }
 
-    /// The same of a message of this service, which is found at the protocol of the service alone.
+    /// Whether something of the message of this key and service is ahead at the node. Only the
+    /// protocol of the service is asked.
+    ///
+    /// Promise: the answer is exact for a message of the scenario by this service, as that of
+    /// `ahead`.
+    ///
+    /// Answers: true exactly where a timer or a closing of the message is ahead.
+    ///
+    /// Shown by: `three_services`, `relcan_timer_is_ahead`, `backlog_first_is_open`.
     pub fn ahead_by(&self, service: Service, msg: MsgKey) -> bool
         ensures { (scenario : ScenarioParts) (past : List NoticeKind) → IsNodeOf scenario past self.now →
             (m : Message) → Contains (messages_of scenario.sends) m → message_key m ≡ msg → m.service ≡ service →
@@ -475,10 +549,17 @@ impl Node {
         }
     }
 
-    /// Whether nothing of any message of this service is ahead at the node, as its protocol sees at
-    /// once. Of a message of EDCAN nothing ever is.
+    /// Whether the protocol of this service sees at once that nothing of any message of the service
+    /// is ahead at the node. Of a message of EDCAN nothing ever is.
     ///
-    /// It may be too careful.
+    /// It may be too careful: it may be false where nothing is ahead.
+    ///
+    /// Promise: where the answer is true, nothing of any message of the scenario by the service is
+    /// ahead.
+    ///
+    /// Answers: true only where nothing is ahead. No clause says when it has to be true.
+    ///
+    /// Shown by: `relcan_timer_is_ahead`, `backlog_first_is_open`.
     pub fn has_nothing_ahead(&self, service: Service) -> bool
         ensures { result ≡ true → (scenario : ScenarioParts) (past : List NoticeKind) (m : Message) → IsNodeOf scenario past self.now →
             Contains (messages_of scenario.sends) m → m.service ≡ service → is_ahead_at scenario m self.now.node past ≡ false }

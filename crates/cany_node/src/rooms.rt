@@ -13,6 +13,10 @@ fn cycles(params: &Params) -> usize
 }
 
 /// How many frames may wait at a node in a run of the scenario.
+///
+/// Promise: the number is that of the definition, and fits 32 bits.
+///
+/// Shown by: `three_services`, `restart_joins`.
 pub fn waiting_room(scenario: &Scenario) -> usize
     ensures room { result ≡ rooms.waiting_room scenario.now }
     ensures few { result < 2 ^ 32 }
@@ -31,6 +35,10 @@ pub fn waiting_room(scenario: &Scenario) -> usize
 }
 
 /// How many actions a turn may have in a run of the scenario.
+///
+/// Promise: the number is that of the definition.
+///
+/// Shown by: `three_services`, `restart_joins`.
 pub fn actions_room(scenario: &Scenario) -> usize
     ensures { result ≡ rooms.actions_room scenario.now }
 {

@@ -190,6 +190,15 @@ fn last_node() -> NodeSet
 }
 
 /// The scenario of the storm of a number.
+///
+/// Promise: the scenario is exactly the one that the definition draws from the number.
+///
+/// Shown by: `.ci/calls.py`, `a_write_of_a_summary_fails`, `a_rule_for_each_fourth_message`,
+/// `a_partial_rule_rejects_half`.
+///
+/// # Errors
+///
+/// `Memory`: out of memory.
 #[tactic(auto, unfolding(crate::specs::Storm::storm_scenario))]
 pub fn storm_scenario(alloc: Global, number: u32) -> Result<Scenario, Memory>
     ensures { IfOk result (λ scenario. scenario ≡ storm.storm_scenario number) }

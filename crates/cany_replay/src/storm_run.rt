@@ -51,6 +51,18 @@ fn run_storm<K: Sink>(alloc: Global, number: u32, sink: &mut K) -> u8
 /// summary of the run to the sink, a line at a time. It answers the status of the program, one of
 /// those in `cany_command::status`. The words are the word `storm` and the number, in 1 to 10
 /// digits and at most 4294967295.
+///
+/// Promise: at status 0 exactly the summary of the storm's run by its round robin journal was
+/// written. That journal is legal and whole, the run has integrity, and within the hypothesis it is
+/// safe. Where the words are right and the sink does not fail, the status is 0 or 6.
+///
+/// Answers: 0 where the summary was written. 2 exactly where the words are not `storm` and a number
+/// of 1 to 10 digits that fits 32 bits. 5 only where the sink's count of faults rose: a prefix of
+/// the summary was taken. 6: out of memory. At 2 and 6 nothing is written. There is no other
+/// status.
+///
+/// Shown by: `.ci/calls.py`, `a_write_of_a_summary_fails`, `storm_always_write_fault`,
+/// `a_storm_of_eleven_digits`.
 pub fn storm_top<K: Sink>(alloc: Global, words: &[String], sink: &mut K) -> u8
     // The words alone decide on this status.
     ensures words { (result ≡ OTHER_WORDS) ↔ (storm_number (map string_bytes words.now) ≡ None) }

@@ -29,11 +29,30 @@ impl OneWord for Replay {
     }
 }
 
-/// Replays: reads a scenario text from the source, runs the scenario by its own journal or, where
-/// it has none, by its round robin journal, and writes the report to the sink, a page of lines at a
-/// time. It answers the status of the program, one of those in `cany_command::status`. The words
-/// are the one word `replay`; causes are looked at in this order: the words, the reading, the text,
-/// the journal, the writing.
+/// Replays: reads a scenario text from the source, runs the scenario, and writes the report to the
+/// sink, a page of lines at a time. The run is by the scenario's own journal or, where it has none,
+/// by its round robin journal.
+///
+/// It answers the status of the program, one of those in `cany_command::status`. The words are the
+/// one word `replay`. Causes are looked at in this order: the words, the reading, the text, the
+/// journal, the writing.
+///
+/// Promise: at status 0 exactly the report of the scenario's run was written, by its own journal or
+/// by round robin. That journal is legal and whole, the run has integrity, and within the
+/// hypothesis it is safe. Where no stream fails, words and text decide the status, or it is 6.
+///
+/// Answers: 0 only where the bytes stand for a scenario whose own journal, if any, is legal and
+/// whole: its report was written. 2 exactly where the words are not the one word `replay`; nothing
+/// is read. 3 only where the bytes stand for no scenario, or its own journal is not legal or not
+/// whole: exactly the line of the first fault was written. 4 only where the source's count of
+/// faults rose. 5 only where the sink's count rose: a prefix of the report or of that line was
+/// taken. 6: out of memory. 7 only where the source has more than 33,554,432 bytes. At 0, 3 and 5
+/// all was read, at 2, 4, 6 and 7 nothing is written. There is no other status.
+///
+/// Shown by: `commands_give_their_answers`, `.ci/calls.py`, `.ci/refusals.py`,
+/// `a_source_that_never_fails`, `each_read_fails_in_turn`, `each_write_fails_in_turn`,
+/// `top_always_refused`, `top_always_read_fault`, `top_always_write_fault`, `nothing_is_reported`,
+/// `benches/refusals.py`.
 pub fn replay_top<S: Source, K: Sink>(
     alloc: Global,
     words: &[String],

@@ -65,6 +65,12 @@ impl Table {
 }
 
 /// The table of a node by its log. It takes no memory.
+///
+/// Promise: the table is the one after the messages that the log delivers by TOTCAN, in their
+/// order. Other entries change nothing.
+///
+/// Shown by: nothing in the program runs it; its edit shows its clauses:
+/// `messages_of_every_service_change_the_table`.
 pub fn table_of(log: &[LogEntry]) -> Table
     ensures { result ≡ folded.table_of (tot_deliveries log.now) }
 {

@@ -12,6 +12,13 @@ use cany_model::laws::safety;
 /// node, and its replies, are those that the first messages of the one order of TOTCAN make. So
 /// nodes that take part from the start have equal tables once they applied equally many messages,
 /// and a message that two of them applied has one reply.
+///
+/// Promise: in every run within the hypothesis of a legal scenario each correct node has the table
+/// and the replies of the first messages of the one order, from its first slot on. Nodes that take
+/// part since slot 0 and applied equally many messages have equal tables and replies. A message
+/// that two of them applied has one reply.
+///
+/// Shown by: `a_table_is_folded_by_origin`.
 pub fn one_table()
     ensures { (scenario : ScenarioParts) (journal : List Step) → IsLegalScenario scenario
         → IsWithin scenario.params (run scenario journal).trace → HasOneTable scenario (run scenario journal) }

@@ -31,7 +31,11 @@ impl Model for Table {
 }
 
 impl Table {
-    /// No key has a value.
+    /// The table in which no key has a value.
+    ///
+    /// Promise: no key has a value.
+    ///
+    /// Shown by: `table_order_decides`, `commands_give_their_answers`.
     pub fn empty() -> Table
         ensures { result ≡ empty_table }
     {
@@ -41,6 +45,12 @@ impl Table {
     }
 
     /// The value of a key, if it has one.
+    ///
+    /// Promise: the value is the one that stands at the key.
+    ///
+    /// Answers: `None` exactly where the key has no value.
+    ///
+    /// Shown by: `table_order_decides`, `commands_give_their_answers`.
     pub fn get(&self, key: u8) -> Option<Value>
         ensures { result ≡ value_at self.now key }
     {
@@ -48,6 +58,14 @@ impl Table {
     }
 
     /// Does what the payload of a message asks for.
+    ///
+    /// Promise: the table and the reply are exactly those of the definition.
+    ///
+    /// Answers: `Ignored` exactly where the payload asks for nothing. Else `Stored` for a value
+    /// that is stored. `Removed` where the key to remove had a value, else `Absent`. `Swapped`
+    /// where the key had exactly the first byte, else `Kept`.
+    ///
+    /// Shown by: `table_order_decides`, `no_value_counts_as_zero`, `a_removal_may_have_more_bytes`.
     pub fn apply(&mut self, payload: &Payload) -> Reply
         ensures { (self.new, result) ≡ parts.apply self.old payload.now }
     {

@@ -100,9 +100,20 @@ fn write_nodes<K: Sink>(world: &World, sink: &mut K) -> Result<(), Failed>
 }
 
 /// Writes the text of the world's run, line by line: whether it is within the fault hypothesis, and
-/// for each node the replies to the messages that its present incarnation applied, and the table
-/// that they made. It takes no memory. A run that has not ended has a text too: of what happened so
-/// far.
+/// the replies and the table of each node. The replies are those to the messages that its present
+/// incarnation applied, and the table is what they made. It takes no memory. A run that has not
+/// ended has a text too: of what happened so far.
+///
+/// Promise: exactly the text of the world's scenario and journal is written, whether the run has
+/// ended or not. At a failure a prefix of it is.
+///
+/// Shown by: `table_order_decides`, `commands_give_their_answers`, `a_key_is_printed_twice`,
+/// `a_message_has_the_reply_of_the_one_before`, `all_entries_count_as_applied`,
+/// `the_second_incarnation_is_not_told`.
+///
+/// # Errors
+///
+/// `Failed` only where the sink's count of faults rose.
 pub fn write_replica<K: Sink>(world: &World, sink: &mut K) -> Result<(), Failed>
     ensures { IsWritten (replica_text world.now.scenario world.now.journal) result
         (K.taken sink.old) (K.taken sink.new) (K.faults sink.old) (K.faults sink.new) }

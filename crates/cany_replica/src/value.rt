@@ -50,7 +50,11 @@ impl Value {
         }
     }
 
-    /// The bytes.
+    /// The bytes of the value.
+    ///
+    /// Promise: the bytes of the value, at most 6.
+    ///
+    /// Shown by: `table_order_decides`.
     pub fn as_slice(&self) -> &[u8]
         ensures bytes { result.now ≡ self.now }
         ensures short { length self.now ≤ 6 }

@@ -41,9 +41,16 @@ const TOP_KEYS: [KeyName; 18] = [
 
 /// The scenario that the bytes of a text stand for.
 ///
+/// Promise: the scenario is exactly the one that the bytes stand for. It is legal, as each scenario
+/// is.
+///
+/// Shown by: `three_services`, `forty_nodes`, `.ci/refusals.py`, `benches/changed_texts.py`,
+/// `a_repeated_rule_is_named_by_its_first`, `an_unknown_key_is_passed_over`,
+/// `a_slot_after_the_run_is_read`.
+///
 /// # Errors
 ///
-/// The first fault of the text, or `Memory` for want of memory before that was found.
+/// The first fault of the text, exactly where the definition finds one. `Memory`: out of memory.
 #[tactic(auto, unfolding(cany_text::specs::ScenarioText::scenario_of))]
 pub fn read_scenario(alloc: Global, bytes: &[u8]) -> Result<Scenario, ScenarioFault>
     ensures ok { IfOk result (λ scenario. scenario_of bytes.now ≡ Ok scenario) }

@@ -1,5 +1,5 @@
-//! The last event of a run: the last scripted ask, and the last slot that ended in a stop, met an
-//! error, or carried a frame that is not of the classes that win over all others.
+//! The last event of a run: the last scripted ask, or the last slot that ended in a stop, met an
+//! error, or carried a frame of a class that does not win over all others.
 ghost use Rattle.std.specs.Prelude.{◌≡◌, ℕ, if◌then◌else◌, map};
 ghost use Rattle.cany_model.specs.Promises.Hypothesis.{is_error_slot};
 ghost use Rattle.cany_model.specs.Promises.Quiet.{is_top};
@@ -118,10 +118,15 @@ fn last_ask(scenario: &Scenario) -> Slot
     )
 }
 
-/// The slot of the last event of a run, of the slots that ran: the greatest of 0, the slots of the
-/// scripted sends, joins and leaves, those at whose end a node stopped, those that carried a frame
-/// and were Lost or Partial, and those that carried a frame of another class than ACCEPT, RHA and
-/// ELS. It takes no memory, and as long as there are slots and asks.
+/// The slot of the last event of a run, of the slots that ran. It is the greatest slot of these, or
+/// 0: those of scripted sends, joins and leaves, those that ended in a stop, and those that carried
+/// a Lost or Partial frame. Those that carried a frame of a class other than ACCEPT, RHA and ELS
+/// count too. It takes no memory, and time in proportion to the slots and the scripted asks.
+///
+/// Promise: the slot is exactly that of the definition, for the slots that ran.
+///
+/// Shown by: `tail_enough`, `tail_too_short`, `life_signs_are_events`, `stops_are_no_events`,
+/// `the_last_for_the_greatest`.
 pub fn last_event(world: &World) -> Slot
     ensures { result ≡ event.last_event world.now.scenario (state_of world.now) }
 {

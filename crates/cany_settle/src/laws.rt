@@ -14,15 +14,25 @@ ghost use Rattle.cany_settle.specs.LongEnough.{AllSettled, IsLongEnough, last_lo
 /// lag, with restarts too. The scenario is one that all nodes of the opening follow from slot 0 on
 /// (`from`), as every scenario that is read. The law does not say that a run ever comes to such an
 /// end.
+///
+/// Promise: in a whole run within the hypothesis of a legal scenario, by any journal, every message
+/// is settled if the last event lies two membership cycles or more before the end.
+///
+/// Shown by: rows Rows of cany_settle.
 pub fn settling()
     ensures { (scenario : ScenarioParts) (journal : List Step) → IsLegalScenario scenario → scenario.from ≡ 0
         → IsWithin scenario.params (run scenario journal).trace → IsWhole scenario journal
         → IsLongEnough scenario (run scenario journal) → AllSettled scenario (run scenario journal) }
 {}
 
-/// Settling sooner: in such a run it is enough that the last scripted send, and the last slot that
-/// carried a frame of another class than those that win over all others, lie `short_tail` slots
-/// before the end. Stops, errors and scripted joins and leaves may come as late as they do.
+/// Settling sooner: in such a run it is enough that the last load lies `short_tail` slots before
+/// the end. The last load is the last scripted send, or the last slot that carried a frame of
+/// another class than those that win over all others. Stops, errors and scripted joins and leaves
+/// may come as late as they do.
+///
+/// Promise: in such a run every message is settled if the last load lies `short_tail` slots or more
+/// before the end. It asks for no restriction on stops, errors, joins or leaves, but that the run
+/// is within the hypothesis.
 pub fn settling_soon()
     ensures { (scenario : ScenarioParts) (journal : List Step) → IsLegalScenario scenario → scenario.from ≡ 0
         → IsWithin scenario.params (run scenario journal).trace → IsWhole scenario journal

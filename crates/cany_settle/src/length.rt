@@ -17,8 +17,12 @@ fn tail_of(params: &Params) -> u64
     2 * params.cycle
 }
 
-/// How many slots a run of the scenario is to go on after its last event, so that every message is
-/// settled: two membership cycles. At most 8,000,000.
+/// How many slots a run of the scenario has to go on after its last event to be long enough: two
+/// membership cycles.
+///
+/// Promise: exactly two membership cycles, and at most 8,000,000.
+///
+/// Shown by: `tail_enough`, `tail_too_short`, `the_tail_of_one_cycle`.
 pub fn tail(scenario: &Scenario) -> u64
     ensures tail { result ≡ enough.tail scenario.now.params }
     ensures most { result ≤ 8000000 }
@@ -34,8 +38,16 @@ pub(crate) fn needed(world: &World) -> u64
     last_event(world) + tail_of(params)
 }
 
-/// Whether an ended run went on for the tail after its last event. If it did, and is within the
-/// fault hypothesis, every message is settled.
+/// Whether an ended run went on for the tail after its last event.
+///
+/// Promise: the answer is exact. Where it is true and the run is within the hypothesis, every
+/// message is settled.
+///
+/// Answers: true exactly where the last event lies two membership cycles or more before the end of
+/// the run.
+///
+/// Shown by: nothing in the program runs it; its edits show its clauses: `always_enough`,
+/// `always_short`.
 pub fn long_enough(world: &World) -> bool
     requires ended { has_ended world.now.scenario (state_of world.now) ≡ true }
     ensures exact { IsTrue result ↔ IsLongEnough world.now.scenario (state_of world.now) }

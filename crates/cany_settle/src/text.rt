@@ -80,6 +80,16 @@ fn write_ending<K: Sink>(world: &World, sink: &mut K) -> Result<(), Failed>
 /// Writes the text of the world's run, line by line: how long it has to go on after its last event,
 /// which slot that was, and whether it did. It takes no memory. A run that has not ended has a text
 /// too: of what happened so far.
+///
+/// Promise: exactly the text of the world's scenario and journal is written, whether the run has
+/// ended or not. At a failure a prefix of it is.
+///
+/// Shown by: `tail_enough`, `tail_too_short`, `tail_unclaimed`, `needed_is_the_tail_alone`,
+/// `a_run_with_restarts_is_claimed`.
+///
+/// # Errors
+///
+/// `Failed` only where the sink's count of faults rose.
 pub fn write_tail<K: Sink>(world: &World, sink: &mut K) -> Result<(), Failed>
     ensures { IsWritten (tail_text world.now.scenario world.now.journal) result
         (K.taken sink.old) (K.taken sink.new) (K.faults sink.old) (K.faults sink.new) }

@@ -24,8 +24,8 @@ use std::sync::Wait;
 pub enum Shown {
     /// The published list of every node is its line.
     All,
-    /// Memory was wanting: of some nodes a beginning of the line is published, and the next step
-    /// tries again.
+    /// There was no memory for all of it: of some nodes a beginning of the line is published, and
+    /// the next step tries again.
     Memory,
 }
 
@@ -58,13 +58,18 @@ impl Model for Hall {
 }
 
 impl Hall {
-    /// The hall of the world of the scenario before its first step, of which nothing is published
-    /// yet, and a reading for each node, in node order. All memory of the world is taken here, and
-    /// none for what will be published.
+    /// The hall of the world of the scenario before its first step, and a reading for each node, in
+    /// node order. Nothing is published yet. All memory of the world is taken here, and none for
+    /// what will be published.
+    ///
+    /// Promise: the world has the scenario and no step was made. Nothing is published of any node,
+    /// and the reading at each place is the one of the node of that number, which knows nothing.
+    ///
+    /// Shown by: `a_read_after_learning_is_the_line`, `watch_one_node`.
     ///
     /// # Errors
     ///
-    /// `Memory` for want of memory. The writers that were made by then are ended, so it may wait.
+    /// `Memory`: out of memory. The writers that were made by then are ended, so the call may wait.
     pub fn build<R: Wait>(
         rt: &R,
         alloc: Global,
@@ -87,6 +92,11 @@ impl Hall {
         }
     }
 
+    /// The world of the hall as it is now.
+    ///
+    /// Promise: the world of the hall.
+    ///
+    /// Shown by: nothing in the program runs it, and no edit changes it.
     pub fn world(&self) -> &World
         ensures { result.now ≡ self.now.world }
     {
@@ -95,6 +105,15 @@ impl Hall {
 
     /// Makes the step, as `World::step` does, and publishes the line of each node. It may wait for
     /// readers.
+    ///
+    /// Promise: reply and world are those of `World::step`. What is published of a node is a
+    /// beginning of its line, and begins with all that was published before.
+    ///
+    /// Answers: the reply of `World::step`; and `All` only where the line of each node is published
+    /// whole. No clause says when `Memory` comes.
+    ///
+    /// Shown by: `a_read_after_learning_is_the_line`, `reads_are_made_beside_steps`,
+    /// `watch_one_node`, `a_failed_publishing_is_all`, `publishes_the_log_of_the_first_node`.
     pub fn step<R: Wait>(&mut self, rt: &R, step: Step) -> (StepReply, Shown)
         // The step is that of the world.
         ensures reply { result.0 ≡ reply self.old.world.scenario (state_of self.old.world) step }
@@ -115,6 +134,11 @@ impl Hall {
     }
 
     /// A note of the list that is published for a node. It takes no memory.
+    ///
+    /// Promise: the note tells the list that is published for the node, and the hall stays as it
+    /// is.
+    ///
+    /// Shown by: `a_read_after_learning_is_the_line`, `watch_one_node`, `tells_what_was_taken`.
     pub fn tell(&mut self, node: NodeId) -> Note
         requires { node < nodes_of self.old.world }
         ensures note { result ≡ note_of (publisher_at self.old.publishers node) }
@@ -126,6 +150,10 @@ impl Hall {
 
     /// Ends the writers, and hands back the world as it stands. It may wait for readers. A read
     /// that begins after it need not return.
+    ///
+    /// Promise: the world as it stands.
+    ///
+    /// Shown by: `a_read_after_learning_is_the_line`, `watch_one_node`.
     pub fn end<R: Wait>(self, rt: &R) -> World
         ensures { result ≡ self.world }
     {

@@ -47,7 +47,11 @@ impl Note {
         (Head { word }, Note { count: 0, seen })
     }
 
-    /// How many entries it has.
+    /// How many entries the list has that the note tells.
+    ///
+    /// Promise: the number of these entries.
+    ///
+    /// Shown by: `watch_one_node`, `watch_two_incarnations`.
     pub fn len(&self) -> u64
         ensures { result ≡ length self.now.entries }
     {
@@ -64,8 +68,15 @@ impl Note {
         }
     }
 
-    /// Whether the other follows this one, or is the shorter. Of any two notes of one node one
-    /// follows the other.
+    /// Whether the other note follows this one. Of any two notes of one node one follows the other.
+    ///
+    /// Promise: where the answer is true, the list of the other note begins with that of this one.
+    /// Where it is false, the list of this note begins with that of the other.
+    ///
+    /// Answers: true only where the other follows this one, false only where this one follows the
+    /// other. Of two equal notes both hold.
+    ///
+    /// Shown by: `a_read_after_learning_is_the_line`, `watch_one_node`.
     pub fn is_followed_by(&self, other: &Note) -> bool
         requires { other.now.book ≡ self.now.book }
         ensures { MatchBool result (Follows self.now other.now) (Follows other.now self.now) }

@@ -65,6 +65,11 @@ impl Reading {
     }
 
     /// Takes in a note. From now on each read begins with what it tells.
+    ///
+    /// Promise: what the reading knows then begins with what it knew and with what the note tells,
+    /// and is one of the two.
+    ///
+    /// Shown by: `a_read_after_learning_is_the_line`, `watch_one_node`, `learn_drops_the_note`.
     pub fn learn(&mut self, note: Note)
         requires { note.book ≡ self.old.book }
         ensures old { Follows self.old self.new }
@@ -76,10 +81,17 @@ impl Reading {
         }
     }
 
-    /// Enters one list that is published, appends its entries from the place `from` on, counted
-    /// from 0, as `Enter`, while there is room, and answers how many entries the list has. The list
-    /// begins with all that was known before. It takes no memory. It tries again where it cannot
-    /// enter, so it may wait.
+    /// Enters one list that is published, and answers how many entries it has. Its entries from the
+    /// place `from` on, counted from 0, are appended to `out` as `Enter`, while there is room. The
+    /// list begins with all that the reading knew before.
+    ///
+    /// It takes no memory. It tries again where it cannot enter, so it may wait.
+    ///
+    /// Promise: the list begins with all that the reading knew, and is what it knows then. The
+    /// answer is its length, and its entries from the place on are appended while there is room.
+    ///
+    /// Shown by: `a_read_after_learning_is_the_line`, `reads_are_made_beside_steps`,
+    /// `watch_one_node`, `read_answers_any_list`, `forgets_the_place`, `read_is_always_empty`.
     pub fn read<R: Wait>(&mut self, rt: &R, from: usize, out: &mut Actions) -> usize
         ensures list { Follows self.old self.new }
         ensures len { result ≡ length self.new.entries }

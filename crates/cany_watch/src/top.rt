@@ -165,12 +165,30 @@ fn watch_text<R: Threads + Wait + Sync, K: Sink>(
     }
 }
 
-/// Watches a node: reads a scenario text from the source, runs the scenario by its own journal or,
-/// where it has none, by its round robin journal, while a second thread reads what is published of
-/// the node, and writes the logs of its incarnations, one after the other, to the sink, a line at a
-/// time. It answers the status of the program, one of those in `cany_command::status`. The words
-/// are the word `watch` and the number of a node, in 1 or 2 digits; causes are looked at in this
-/// order: the words, the reading, the text, the node, the journal, the writing. It may wait.
+/// Watches a node: reads a scenario text from the source, runs the scenario, and writes the logs of
+/// the node's incarnations, one after the other, to the sink, a line at a time. A second thread
+/// reads what is published of the node while the scenario runs. The run is by the scenario's own
+/// journal or, where it has none, by its round robin journal.
+///
+/// It answers the status of the program, one of those in `cany_command::status`. The words are the
+/// word `watch` and the number of a node, in 1 or 2 digits. Causes are looked at in this order: the
+/// words, the reading, the text, the node, the journal, the writing. It may wait.
+///
+/// Promise: at status 0 exactly the text of the node's line in the scenario's run was written. The
+/// journal is legal and whole, the run has integrity, and within the hypothesis it is safe. Where
+/// no stream fails, words and text decide the status, or it is 6; all of it if the call returns.
+///
+/// Answers: 0 only where the bytes stand for a scenario that has the node, and whose own journal,
+/// if any, is legal and whole: its text was written. 2 exactly where the words are not `watch` and
+/// a number of 1 or 2 digits; nothing is read. 3 only where the bytes stand for no scenario, the
+/// scenario does not have the node, or its own journal is not legal or not whole. Exactly the line
+/// of the first of these was written. 4 only where the source's count of faults rose. 5 only where
+/// the sink's count rose: a prefix of the text or of that line was taken. 6: out of memory. 7 only
+/// where the source has more than 33,554,432 bytes. At 0, 3 and 5 all was read, at 2, 4, 6 and 7
+/// nothing is written. There is no other status.
+///
+/// Shown by: `.ci/calls.py`, `watch_one_node`, `watch_two_incarnations`, `watch_no_such_node`,
+/// `a_node_that_is_not_there`, `benches/readers.py`.
 pub fn watch_top<R: Threads + Wait + Sync, S: Source, K: Sink>(
     rt: &R,
     alloc: Global,

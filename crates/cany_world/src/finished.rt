@@ -16,8 +16,8 @@ use can_controller::Controller;
 use cany_base::Service;
 use std::marker::Model;
 
-/// The services of whose messages nothing more is to come once they were asked for. They are found
-/// once for all messages of a world, since it takes less than to ask all nodes about each message.
+/// The services whose messages are settled once they were asked for. They are found once for all
+/// messages of a world, which costs less than to ask all nodes about each message.
 #[derive(Drop)]
 pub struct FinishedServices {
     ed: bool,

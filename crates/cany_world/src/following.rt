@@ -10,8 +10,17 @@ use cany_model::{FollowFault, StepReply};
 /// Makes the steps of the journal up to the first that is refused, and says whether they are a
 /// whole run.
 ///
-/// `Refused` comes exactly where a step is not done, and names the first by its place. `Unfinished`
-/// comes exactly where all steps were done and the world has not ended.
+/// Promise: the answer is exactly the fault of the journal. The world has made all steps of the
+/// journal, or those before the first that is refused.
+///
+/// Shown by: `.ci/refusals.py`, `refused_journal`, `round_robin_may_be_given`,
+/// `one_notice_later_is_too_late`.
+///
+/// # Errors
+///
+/// `Refused` exactly where a step is not done: the place of the first and its reply. `Unfinished`
+/// exactly where all steps were done and the run has not ended: how many slots ran, and the least
+/// running node with an unread notice.
 pub fn follow(world: &mut World, journal: &[Step]) -> Result<(), FollowFault>
     requires { world.old.journal ≡ [] }
     ensures fault { MatchResult result (λ _. journal_fault world.old.scenario journal.now ≡ None)

@@ -42,6 +42,11 @@ fn advance(world: &mut World, left: u64) -> u64
 
 /// Runs the whole of the scenario: in each slot the slot, and then the turns of the running nodes
 /// that have something to read, in ascending order.
+///
+/// Promise: the journal of the world is exactly the round robin journal of its scenario, and the
+/// run has ended.
+///
+/// Shown by: `one_message_no_fault`, `a_long_journal_repeats`, `a_rule_is_passed_over`.
 pub fn round_robin(world: &mut World)
     requires { world.old.journal ≡ [] }
     ensures run { world.new ≡ record { scenario = world.old.scenario; journal = round_robin world.old.scenario } }

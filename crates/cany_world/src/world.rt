@@ -99,6 +99,14 @@ impl World {
     ghost use Rattle.cany_world.specs.World.{WorldParts, state_of};
 
     /// The world of the scenario before its first step, with room for every run of it.
+    ///
+    /// Promise: the world has the scenario, and no step was made.
+    ///
+    /// Shown by: `seats_by_hand`, `threads_replay`.
+    ///
+    /// # Errors
+    ///
+    /// `Memory`: out of memory.
     pub fn build(alloc: Global, scenario: &Scenario) -> Result<World, Memory>
         ensures { IfOk result (λ world. world ≡ record { scenario = scenario.now; journal = [] }) }
     {
@@ -127,6 +135,18 @@ impl World {
     ///
     /// A slot runs where slots are left and no running node lags. A turn reads the oldest unread
     /// notice of a node that runs. How far a node may lag is a parameter of the scenario.
+    ///
+    /// Promise: the reply is exactly that of the definition. A step that is done is appended to the
+    /// journal, and the run is the one after that step. Any other reply leaves the world as it was.
+    ///
+    /// Answers: `Done` exactly where the step can be made. For a slot: else `Over` exactly where
+    /// all slots ran, else `Lagging` with the least running node that lags. For a turn: else
+    /// `NoNode` exactly where there is no such node, else `Stopped` exactly where it stopped, else
+    /// `NothingYet`.
+    ///
+    /// Shown by: `.ci/refusals.py`, `a_stopped_node_takes_no_turn`,
+    /// `the_first_node_is_named_as_lagging`, `step_always_lagging`, `step_always_nothing_yet`,
+    /// `every_step_is_noted_as_a_slot`.
     pub fn step(&mut self, step: Step) -> StepReply
         ensures reply { result ≡ reply self.old.scenario (state_of self.old) step }
         ensures new { self.new ≡ (if is_done result then record self.old { journal = self.old.journal ++ step ∷ [] } else self.old) }
@@ -167,6 +187,15 @@ impl World {
 
     /// Makes the turn of the node, if it runs and has something to read, as the step of this turn
     /// does. The answer is the node's: it names the slot whose notice was read.
+    ///
+    /// Promise: the answer is the reply to the step of this turn. A turn that is made is appended
+    /// to the journal, and the run is the one after that step. Any other answer leaves the world as
+    /// it was.
+    ///
+    /// Answers: `Turned` exactly where the step can be made, with the slot that the node had to
+    /// read next. Else `Stopped` or `NothingYet`, as the reply to the step.
+    ///
+    /// Shown by: `seats_by_hand`, `one_message_no_fault`, `threads_replay`.
     pub fn make_turn(&mut self, node: NodeId) -> TurnReply
         requires { node < self.old.scenario.params.nodes }
         ensures reply { step_reply result ≡ reply self.old.scenario (state_of self.old) (Turn node) }
@@ -236,6 +265,12 @@ impl World {
     }
 
     /// Whether all slots ran and every running node has read every notice.
+    ///
+    /// Promise: the answer is exactly that of the definition.
+    ///
+    /// Answers: true exactly where all slots ran and every running node has read every notice.
+    ///
+    /// Shown by: `threads_replay`, `.ci/refusals.py`.
     pub fn ended(&self) -> bool
         ensures { result ≡ has_ended self.now.scenario (state_of self.now) }
     {
@@ -244,6 +279,10 @@ impl World {
     }
 
     /// The log of the present incarnation of a node, oldest entry first.
+    ///
+    /// Promise: the log of the node in the run.
+    ///
+    /// Shown by: `table_order_decides`, `a_read_after_learning_is_the_line`.
     pub fn log(&self, node: NodeId) -> &[LogEntry]
         requires { node < self.now.scenario.params.nodes }
         ensures { result.now ≡ model.log self.now.scenario (state_of self.now) node }
@@ -251,7 +290,13 @@ impl World {
         self.incarnations(node).node().log()
     }
 
-    /// The log of an incarnation of a node, oldest entry first. One that has ended keeps its log.
+    /// The log of an incarnation of a node, oldest entry first. An incarnation that has ended keeps
+    /// its log.
+    ///
+    /// Promise: the log of the incarnation in the run.
+    ///
+    /// Shown by: `watch_two_incarnations`, `delivered_in_both_logs`,
+    /// `every_log_is_that_of_the_opening`.
     pub fn log_of(&self, node: NodeId, inc: u8) -> &[LogEntry]
         requires node { node < self.now.scenario.params.nodes }
         requires inc { inc ≤ (node_at (state_of self.now).nodes node).present.number }
@@ -260,7 +305,11 @@ impl World {
         self.incarnations(node).log_of(inc)
     }
 
-    /// What became of an incarnation of a node.
+    /// From when to when an incarnation of a node ran, and how many notices it read.
+    ///
+    /// Promise: the span of the incarnation in the run.
+    ///
+    /// Shown by: `restart_hears_again`, `fifteen_restarts`.
     pub fn span(&self, node: NodeId, inc: u8) -> Span
         requires node { node < self.now.scenario.params.nodes }
         requires inc { inc ≤ (node_at (state_of self.now).nodes node).present.number }
@@ -271,6 +320,10 @@ impl World {
 
     /// The number of the present incarnation of a node: 0 at the opening, and one more with each
     /// restart.
+    ///
+    /// Promise: the number of the present incarnation in the run.
+    ///
+    /// Shown by: `restart_hears_again`, `fifteen_restarts`.
     pub fn incarnation(&self, node: NodeId) -> u8
         requires { node < self.now.scenario.params.nodes }
         ensures { result ≡ (node_at (state_of self.now).nodes node).present.number }
@@ -279,6 +332,10 @@ impl World {
     }
 
     /// The nodes that started again at the end of the slot.
+    ///
+    /// Promise: exactly the nodes that started again at the end of the slot.
+    ///
+    /// Shown by: `restarts_at_the_edges`, `verdict_entries_that_did_nothing`.
     pub fn restarted(&self, slot: Slot) -> NodeSet
         ensures { result ≡ restarted_in (state_of self.now) slot }
     {
@@ -288,8 +345,12 @@ impl World {
         began_nodes(slot, self.nodes.as_slice())
     }
 
-    /// The next slot that a node has to read: how many notices it has read, of one that has never
-    /// started again.
+    /// The next slot that a node has to read. Of a node that has never started again, it is the
+    /// number of notices that the node has read.
+    ///
+    /// Promise: the next slot that the node has to read in the run.
+    ///
+    /// Shown by: `threads_replay`, `gates_overlap_and_one_refuses`.
     pub fn read(&self, node: NodeId) -> u64
         requires { node < self.now.scenario.params.nodes }
         ensures { result ≡ reads (state_of self.now) node }
@@ -298,6 +359,13 @@ impl World {
     }
 
     /// The slot in which the present incarnation of a node stopped. A node that runs has none.
+    ///
+    /// Promise: the stop of the present incarnation in the run.
+    ///
+    /// Answers: `None` exactly where the present incarnation runs, else the slot in which it
+    /// stopped.
+    ///
+    /// Shown by: `edcan_sender_stops_after_partial`, `restart_hears_again`.
     pub fn stopped(&self, node: NodeId) -> Option<Slot>
         requires { node < self.now.scenario.params.nodes }
         ensures { result ≡ (node_at (state_of self.now).nodes node).stopped }
@@ -306,6 +374,10 @@ impl World {
     }
 
     /// The steps that were made, each of them done.
+    ///
+    /// Promise: the steps that were made, and each of them could be made.
+    ///
+    /// Shown by: `seats_by_hand`, `threads_replay`, `journal_lines_of_63_steps`.
     pub fn journal(&self) -> &[Step]
         ensures journal { result.now ≡ self.now.journal }
         ensures legal { IsLegal self.now.scenario self.now.journal }
@@ -313,8 +385,13 @@ impl World {
         self.journal.as_slice()
     }
 
-    /// After how many steps the journal repeats itself up to its end, as far as is known. It is 0
-    /// where nothing is known, after which each journal repeats itself.
+    /// After how many steps the journal repeats itself up to its end, as far as the world knows. It
+    /// is 0 where it knows of none: after 0 steps each journal repeats itself.
+    ///
+    /// Promise: after this many steps the journal is the same again, up to its end. No clause says
+    /// that the number is more than 0.
+    ///
+    /// Shown by: `a_long_journal_repeats`.
     pub fn period(&self) -> usize
         ensures { Repeats result self.now.journal }
     {
@@ -322,6 +399,10 @@ impl World {
     }
 
     /// The notes of the slots that ran, oldest first.
+    ///
+    /// Promise: the notes of the run, oldest first.
+    ///
+    /// Shown by: `three_services`, `sixteen_lost_slots`.
     pub fn trace(&self) -> &[SlotNote]
         ensures oldest_first { result.now ≡ reverse (state_of self.now).trace }
         ensures newest_first { reverse result.now ≡ (state_of self.now).trace }
@@ -330,6 +411,10 @@ impl World {
     }
 
     /// The scenario that the world runs: a copy of the one that it was built with.
+    ///
+    /// Promise: the scenario of the world.
+    ///
+    /// Shown by: `three_services`, `commands_give_their_answers`.
     pub fn scenario(&self) -> &Scenario
         ensures { result.now ≡ self.now.scenario }
     {
@@ -337,6 +422,10 @@ impl World {
     }
 
     /// The key of the message of a scripted send, by its place in the file.
+    ///
+    /// Promise: the key of the message at this place.
+    ///
+    /// Shown by: `four_messages`, `verdict_messages_are_open`.
     pub fn key(&self, index: usize) -> MsgKey
         requires { index < length self.now.scenario.sends }
         ensures { IsSomeAnd (slice_get (messages_of self.now.scenario.sends) index) (λ m. result ≡ message_key m) }
@@ -347,6 +436,14 @@ impl World {
 
     /// Whether the message of a scripted send, by its place in the file, is settled: nothing more
     /// is to come of it.
+    ///
+    /// Promise: the answer is exactly that of the definition.
+    ///
+    /// Answers: true exactly where all is read, the origin has asked, stopped or came too late, no
+    /// running node waits with a frame of the message, and none has anything of it ahead.
+    ///
+    /// Shown by: `backlog_first_is_open`, `relcan_timer_is_ahead`,
+    /// `a_send_counts_as_one_of_the_first_slot`.
     pub fn settled(&self, index: usize) -> bool
         requires { index < length self.now.scenario.sends }
         ensures { IsSomeAnd (slice_get (messages_of self.now.scenario.sends) index) (λ m. result ≡ is_settled self.now.scenario (state_of self.now) m) }
@@ -358,14 +455,27 @@ impl World {
         is_settled(format, &sends[index], &self.key(index), controllers, nodes)
     }
 
-    /// The services of whose messages nothing more is to come once they were asked for.
+    /// The services whose messages are settled once they were asked for.
+    ///
+    /// Promise: a message by one of these services is settled exactly where its origin has asked
+    /// for it, has stopped or came too late. No clause says that a service is among them as soon as
+    /// it can be.
+    ///
+    /// Shown by: `one_message_no_fault`, `backlog_first_is_open`.
     pub fn finished_services(&self) -> FinishedServices
         ensures { IsFinished self.now.scenario (state_of self.now) result }
     {
         finished_services(self.controllers.as_slice(), self.nodes.as_slice())
     }
 
-    /// What `settled` answers, found sooner where the message is by one of the finished services.
+    /// What `settled` answers. It is found sooner where the message is by one of the finished
+    /// services.
+    ///
+    /// Promise: the answer is exactly that of `settled`.
+    ///
+    /// Answers: true exactly where the message is settled.
+    ///
+    /// Shown by: `.ci/stops.py`, `backlog_first_is_open`, `backlog_first_closes`, `tail_enough`.
     pub fn settled_by(&self, index: usize, finished: &FinishedServices) -> bool
         requires index { index < length self.now.scenario.sends }
         requires finished { IsFinished self.now.scenario (state_of self.now) finished.now }
@@ -384,6 +494,13 @@ impl World {
     ///
     /// Where all is read, a message is settled if it is not queued, nobody waits with a frame of it
     /// and nobody has anything of it ahead.
+    ///
+    /// Promise: the answer is exactly that of the definition.
+    ///
+    /// Answers: true exactly where the origin runs, takes part since the scripted slot or earlier,
+    /// and has not asked for the message.
+    ///
+    /// Shown by: `an_account_is_judged`, `verdict_messages_are_open`.
     pub fn queued(&self, index: usize) -> bool
         requires { index < length self.now.scenario.sends }
         ensures { IsSomeAnd (slice_get (messages_of self.now.scenario.sends) index) (λ m. result ≡ is_queued self.now.scenario (state_of self.now) m) }
@@ -396,6 +513,11 @@ impl World {
 
     /// The running nodes that wait with the data frame of the message of a scripted send, by its
     /// place in the file, or with a frame that confirms or accepts it.
+    ///
+    /// Promise: exactly the running nodes that wait with one of these frames. The set is empty
+    /// exactly where the definition of a settled message has nobody that waits.
+    ///
+    /// Shown by: `an_account_is_judged`, `verdict_messages_are_open`.
     pub fn waiting(&self, index: usize) -> NodeSet
         requires { index < length self.now.scenario.sends }
         ensures set { IsSomeAnd (slice_get (messages_of self.now.scenario.sends) index) (λ m. result ≡ waiting_nodes (frames_of m) (state_of self.now)) }
@@ -410,6 +532,11 @@ impl World {
 
     /// The running nodes that have a timer or a closing of the message of a scripted send, by its
     /// place in the file, ahead.
+    ///
+    /// Promise: exactly the running nodes that have something of the message ahead. The set is
+    /// empty exactly where the definition of a settled message has nothing ahead.
+    ///
+    /// Shown by: `an_account_is_judged`, `verdict_messages_are_open`.
     pub fn ahead(&self, index: usize) -> NodeSet
         requires { index < length self.now.scenario.sends }
         ensures set { IsSomeAnd (slice_get (messages_of self.now.scenario.sends) index)
@@ -425,6 +552,11 @@ impl World {
 
     /// The running nodes that wait with the frame of the sign that the node failed, as it was found
     /// out in a membership cycle.
+    ///
+    /// Promise: exactly the running nodes that wait with the frame of the sign. The set is empty
+    /// exactly where nobody waits with it.
+    ///
+    /// Shown by: `verdict_sign_is_open`, `verdict_sign_at_one_node`.
     pub fn waiting_sign(&self, node: NodeId, cycle: u16) -> NodeSet
         requires { node < self.now.scenario.params.nodes }
         ensures set { result ≡ waiting_nodes (fda_of (record { node = node; cycle = cycle }) ∷ []) (state_of self.now) }
@@ -435,6 +567,10 @@ impl World {
     }
 
     /// The first slot in which an incarnation of a node takes part.
+    ///
+    /// Promise: the first slot in which the incarnation takes part in the run.
+    ///
+    /// Shown by: `verdict_order_since_a_restart`, `verdict_all_held`.
     pub fn takes_part_since(&self, node: NodeId, inc: u8) -> Slot
         requires node { node < self.now.scenario.params.nodes }
         requires inc { inc ≤ (node_at (state_of self.now).nodes node).present.number }
@@ -443,15 +579,26 @@ impl World {
         self.incarnations(node).takes_part_since(inc)
     }
 
-    /// The first slot at which the run leaves the fault hypothesis.
+    /// The first slot at which the run leaves the fault hypothesis, and how.
     ///
-    /// In any case no message stands twice or unsent in the log of a node that runs. Where there is
-    /// no such slot, the run keeps what is promised of a run within the hypothesis.
+    /// More holds where there is none and the scenario has no restart entry. A running node counts
+    /// as failed at no running node. Let all running nodes have a node in their views after a slot.
+    /// If the node runs and has asked for no leave, it stays in their logged views of the cycles
+    /// that end later. If it stopped in that slot, it is in no logged view of a cycle that starts
+    /// more than `silence` slots later.
     ///
-    /// If besides the scenario has no restart entry, a node that runs counts as failed at no node
-    /// that runs, and stays in the views of their logs unless it asks to leave; a node that stopped
-    /// as a member is in no view there of a cycle that starts more than `silence` slots later; and
-    /// a node whose ask to join got through is admitted.
+    /// Let a JOIN of a node be carried Clean after the start of cycle k − 1 and not after that of
+    /// cycle k, while no running node has the node in its view. Each running node that installs a
+    /// vector in cycle k has the node in it or, for k > 1, in its vector before.
+    ///
+    /// Promise: the answer is exactly the first break of the definition. In any case the run has
+    /// integrity; where there is no break, it is safe. Where the scenario has no restart entry
+    /// either, the run keeps accuracy, staying, removal and admission (`KeepsMembers`).
+    ///
+    /// Answers: `None` exactly where the run is within the hypothesis.
+    ///
+    /// Shown by: `.ci/stops.py`, `hypothesis_always_outside`, `silent_omission_is_outside`,
+    /// `sixteen_lost_slots`.
     pub fn hypothesis(&self) -> Option<Break>
         ensures first { result ≡ first_break self.now.scenario.params (state_of self.now).trace }
         ensures within { (result ≡ None) ↔ IsWithin self.now.scenario.params (state_of self.now).trace }

@@ -35,6 +35,10 @@ impl<'a, L: Course, B: Ledger> Model for Deck<'a, L, B> {
 impl<'a, L: Course, B: Ledger> Deck<'a, L, B> {
     /// The world as it is now: the run, by its journal, of the scenario with which the yard was
     /// started.
+    ///
+    /// Promise: the world as it is now. Its scenario is the one with which the yard was started.
+    ///
+    /// Shown by: `threads_replay`, `gates_overlap_and_one_refuses`.
     pub fn world(&self) -> &World
         ensures world { result.now ≡ self.now }
         ensures scenario { result.now.scenario ≡ L.scenario }
@@ -44,6 +48,15 @@ impl<'a, L: Course, B: Ledger> Deck<'a, L, B> {
 
     /// Makes the turn of the seat's node, if it can be made. The reply names the slot whose notice
     /// was read.
+    ///
+    /// Promise: reply and change are those of `World::step` for the turn of the seat's node. The
+    /// seat's count rises by one exactly at a turn that was made.
+    ///
+    /// Answers: `Turned` exactly where the turn can be made, with the slot that the node had to
+    /// read next. Else `Stopped` or `NothingYet`, as the reply to the step.
+    ///
+    /// Shown by: `seats_by_hand`, `threads_replay`, `deck_turn_always_nothing_yet`,
+    /// `deck_turn_of_another_node`, `deck_turn_makes_a_second_turn`, `a_turn_is_not_booked`.
     pub fn turn(&mut self, seat: &mut Seat<L, B>) -> TurnReply
         ensures reply { step_reply result ≡ reply_in self.old (step.Turn seat.old.node) }
         ensures slot { (slot : ℕ) → result ≡ TurnReply.Turned slot → slot ≡ reads (state_of self.old) seat.old.node }
@@ -55,6 +68,14 @@ impl<'a, L: Course, B: Ledger> Deck<'a, L, B> {
     }
 
     /// Runs the next slot, if it can run.
+    ///
+    /// Promise: reply and change are those of `World::step` for the slot. The seat's count rises by
+    /// one exactly at a slot that was run.
+    ///
+    /// Answers: `Done` exactly where the slot can run. Else `Over` exactly where all slots ran,
+    /// else `Lagging` with the least running node that lags.
+    ///
+    /// Shown by: `seats_by_hand`, `threads_replay`, `a_refused_slot_is_booked`.
     pub fn slot(&mut self, bus: &mut BusSeat<L, B>) -> StepReply
         ensures reply { result ≡ reply_in self.old step.Slot }
         ensures new { self.new ≡ world_after (is_done result) self.old step.Slot }

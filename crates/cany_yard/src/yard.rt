@@ -38,6 +38,15 @@ impl<L: Course, B: Ledger> Yard<L, B> {
     ///
     /// The names are those of the two blanks: the first has a part for each node, and the second
     /// has one. No call but this takes memory.
+    ///
+    /// Promise: the seat of the bus has counted no slot. There is a seat for each node, at the
+    /// place of its number, and none has counted a turn.
+    ///
+    /// Shown by: `seats_by_hand`, `threads_replay`, `seats_in_descending_order`.
+    ///
+    /// # Errors
+    ///
+    /// `Memory`: out of memory. The world is handed back as it was.
     pub fn start(
         alloc: Global,
         turns: Blank,
@@ -70,6 +79,11 @@ impl<L: Course, B: Ledger> Yard<L, B> {
     }
 
     /// Takes the lock, for which it may wait.
+    ///
+    /// Promise: the deck lends the world of the yard: the run, by its journal, of the scenario with
+    /// which the yard was started. No clause says that the call returns.
+    ///
+    /// Shown by: `seats_by_hand`, `threads_replay`, `gates_overlap_and_one_refuses`.
     pub fn lock<R: Wait>(&self, rt: &R) -> Deck<'_, L, B> {
         Deck {
             locked: self.locked.lock(rt),
@@ -78,6 +92,17 @@ impl<L: Course, B: Ledger> Yard<L, B> {
 
     /// The world, once all seats are given back. Its journal has as many turns as the seats counted
     /// together, and as many slots as the seat of the bus counted.
+    ///
+    /// Promise: the world has the scenario with which the yard was started. Its journal has as many
+    /// turns as the seats counted together, and as many slots as the seat of the bus counted.
+    ///
+    /// Shown by: `seats_by_hand`, `close_does_not_look_at_the_seats`,
+    /// `a_seat_is_left_out_at_the_close`.
+    ///
+    /// # Errors
+    ///
+    /// `SeatsMissing` exactly where fewer seats are given than were made: both numbers, and all
+    /// that was given.
     pub fn close(
         self,
         bus: BusSeat<L, B>,
@@ -106,6 +131,12 @@ impl<L: Course, B: Ledger> Yard<L, B> {
 
     /// Gives back the world that the seats worked. No seat may be missing: `close` is the call that
     /// tests this.
+    ///
+    /// Promise: the world has the scenario with which the yard was started. Its journal has as many
+    /// turns as the seats counted together, and as many slots as the seat of the bus counted.
+    ///
+    /// Shown by: `threads_replay`, `gates_overlap_and_one_refuses`,
+    /// `a_seat_is_left_out_at_the_close`.
     pub fn end(self, bus: BusSeat<L, B>, seats: Vec<Seat<L, B>>) -> World
         requires { L.scenario.params.nodes ≤ vec_len seats }
         ensures scenario { result.scenario ≡ L.scenario }
