@@ -91,7 +91,7 @@ def end_of(lines, at, indent):
 def functions_in(file, crate):
     lines = file.read_text(encoding="utf-8").split("\n")
     owner, is_trait, is_public_trait, comment, is_test = None, False, False, [], False
-    place = 0
+    place, in_attribute = 0, False
     while place < len(lines):
         line = lines[place]
         if found := OWNER.match(line):
@@ -128,10 +128,12 @@ def functions_in(file, crate):
             place = last + 1
             continue
         stripped = line.strip()
-        if stripped.startswith(("///", "#[")):
+        is_attribute = stripped.startswith("#[") or in_attribute
+        if stripped.startswith("///") or is_attribute:
             comment.append(line)
             is_test = is_test or stripped == "#[test]"
-        elif stripped:
+            in_attribute = is_attribute and not stripped.endswith("]")
+        elif stripped and not stripped.startswith("//"):
             comment, is_test = [], False
         place += 1
 

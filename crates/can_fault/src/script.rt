@@ -68,7 +68,7 @@ impl Script {
     /// Promise: the script is the list of these rules, whose places are then distinct. `Repeated`
     /// names the first rule that has the place of an earlier one.
     ///
-    /// Shown by: `sixteen_lost_slots`, `repeated_place_is_accepted`. No scenario meets `Repeated`,
+    /// Shown by: `sixteen_lost_slots`, `repeated_place_is_accepted`. No scenario meets a repeat,
     /// since the reader of texts finds it first.
     ///
     /// # Errors
