@@ -10,14 +10,17 @@ ghost use Rattle.cany_model.specs.Promises.Settled.{IsCorrect, IsCorrectFrom, or
 ghost use Rattle.cany_model.specs.Rules.Messages.{Message, data_id, messages_of};
 ghost use Rattle.cany_model.specs.Rules.Sends.{is_sent_at_once};
 ghost use Rattle.cany_model.specs.Runs.Run.{run};
-ghost use Rattle.cany_laws.specs.Waits.{HasAskedBy, HasDeliveredBy, IsAwaitedThrough, WasCarriedIn, least_left, most_taken, interference, waits_since, window};
+ghost use Rattle.cany_laws.specs.Waits.{HasAskedBy, HasDeliveredBy, IsAwaitedThrough, IsAwaitedUntilCarried, WasCarriedIn, least_left, most_taken, interference, waits_since, window};
 
 /// How long a frame waits: in every run within the fault hypothesis of a legal scenario, let
 /// running nodes wait with a frame of one identity in n consecutive slots, none of which carries it
-/// Clean. Then n is at most the sum of two numbers: how many of these slots carry Clean a frame
-/// that wins over it and is of the classes FDA to ED; and `most_taken` times the number of windows
-/// of
-/// `bound` + `lag` slots that n slots need, the last one perhaps in part.
+/// Clean. Let w be the number of windows of `bound` + `lag` slots that n slots need, the last one
+/// perhaps in part. Then n is at most the sum of two numbers: how many of these slots carry Clean a
+/// frame that wins over it and is of the classes FDA to ED; and w times `most_taken`.
+///
+/// It says something from n = w times `most_taken` + 1 slots on: below that the second number alone
+/// is n or more. Where a window has just one slot more than `most_taken`, as with the least `bound`
+/// and no lag, that is one whole window, two windows less a slot, three less two.
 ///
 /// `most_taken` is 3N² + 2N + `errors`, with N nodes: at most so many slots of a window carry an
 /// ACCEPT, RHA or ELS Clean, or are Lost or Partial. No slot is idle while a frame waits. The node
@@ -31,9 +34,14 @@ pub fn few_slots_of_waiting()
 {}
 
 /// A frame that waits is carried: in every run within the fault hypothesis of a legal scenario, let
-/// running nodes wait with a frame of one identity in each slot of w windows of `bound` + `lag`
-/// slots, one after another. If fewer than w times `least_left` of these slots carry Clean a frame
-/// that wins over it and is of the classes FDA to ED, one of these slots carries it Clean.
+/// w windows of `bound` + `lag` slots, one after another, have run. Let running nodes wait with a
+/// frame of one identity in the first of their slots and in each later one, up to the first that
+/// carries it Clean, or else to the end of the windows. If fewer than w times `least_left` of these
+/// slots carry Clean a frame that wins over it and is of the classes FDA to ED, one of these slots
+/// carries it Clean.
+///
+/// So it speaks of a frame that is asked for once, carried and gone: nobody need wait with it after
+/// that. It does not speak of one that is withdrawn before it was carried Clean.
 ///
 /// `least_left` is `bound` + `lag` less `most_taken`. In a legal scenario it is at least 1. Against
 /// an ACCEPT, RHA or ELS no slot is counted, so one window is enough.
@@ -42,7 +50,7 @@ pub fn carried_in_windows()
     ensures carried { (scenario : ScenarioParts) (journal : List Step) → IsLegalScenario scenario
         → IsWithin scenario.params (run scenario journal).trace → (x : Identity) (first windows : ℕ)
         → first + windows * window scenario.params ≤ slots_run (run scenario journal)
-        → IsAwaitedThrough scenario journal x first (windows * window scenario.params)
+        → IsAwaitedUntilCarried scenario journal x first (windows * window scenario.params)
         → interference x (run scenario journal) first (windows * window scenario.params) < windows * least_left scenario.params
         → WasCarriedIn (run scenario journal).trace x first (windows * window scenario.params) }
 {}
