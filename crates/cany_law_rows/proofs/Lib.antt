@@ -2,12 +2,14 @@ pub mod AdmissionRows
 pub mod AlarmRows
 pub mod CarriedRows
 pub mod OrderRows
+pub mod PremiseWords
 pub mod RemovalRows
 pub mod RequestRows
 pub mod RestartRows
 pub mod RowWords
 pub mod SequenceRows
 pub mod SettledRows
+pub mod SilencePremiseRows
 pub mod SilenceRows
 pub mod StopRows
 pub mod WaitRows
