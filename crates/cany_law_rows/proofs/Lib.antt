@@ -1,6 +1,10 @@
 pub mod AdmissionRows
 pub mod AlarmRows
 pub mod CarriedRows
+pub mod DeliveryRows
+pub mod KnownSignRows
+pub mod LateJoinRows
+pub mod OftenCarriedRows
 pub mod OrderRows
 pub mod PremiseWords
 pub mod RemovalRows
@@ -11,5 +15,6 @@ pub mod SequenceRows
 pub mod SettledRows
 pub mod SilencePremiseRows
 pub mod SilenceRows
+pub mod StayingRows
 pub mod StopRows
 pub mod WaitRows

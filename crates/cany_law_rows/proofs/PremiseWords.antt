@@ -1,11 +1,13 @@
 -- What rows are written with that show the premise of a law, or what a law says, of a run: what a
 -- row has computed of it, its incarnations, and its slots.
-use Rattle.std.specs.Prelude.{ℕ, zero, suc, ◌+◌, ◌≤◌, ◌<◌, ◌==◌, ◌&&◌, ◌≡◌, Bool, true, false, List, [], ◌∷◌, Contains, Option, Some, None, drop, map, take, refl}
+use Rattle.std.specs.Prelude.{ℕ, zero, suc, ◌+◌, ◌*◌, ◌≤◌, ◌<◌, ◌==◌, ◌&&◌, ◌≡◌, Bool, true, false, List, [], ◌∷◌, Contains, Option, Some, None, drop, map, take, refl}
 use Rattle.std.specs.List.{AllByRecursion, list_all, list_any, range_with_len}
 use Rattle.std.proofs.Common.{ap, arith, inl, inr, ◌∙◌, subst, sym}
-use Rattle.std.proofs.lemmas.Bool.{and_parts, both_ways, cases_eq, cases_lt, false_from_ne_true, false≢true}
+use Rattle.std.proofs.lemmas.Bool.{and_parts, both_ways, cases_eq, cases_lt, false_from_ne_true, false≢true, or_left, or_right}
 use Rattle.std.proofs.lemmas.Option.{none-some, same_Some}
 use Rattle.cany_base.specs.declared.class.Class.TheVariants as class
+use Rattle.cany_base.specs.declared.log_entry.LogEntry.{LogEntry}
+use Rattle.cany_base.specs.declared.log_entry.LogEntry.TheVariants.{Deliver, Failed, View}
 use Rattle.cany_base.specs.declared.notice.NoticeKind.{NoticeKind}
 use Rattle.cany_base.specs.declared.notice.NoticeKind.TheVariants.{Idle, Got, Sent, Bad}
 use Rattle.cany_base.specs.declared.slot_note.SlotNote.{SlotNote}
@@ -16,17 +18,21 @@ use Rattle.cany_base.specs.Scenario.{ScenarioParts}
 use Rattle.cany_model.specs.Bus.Frames.{same_class}
 use Rattle.cany_model.specs.Bus.History.{given}
 use Rattle.cany_model.specs.Bus.Slot.{carried}
-use Rattle.cany_model.specs.Bus.State.{EndedIncarnation, RunState, node_at}
+use Rattle.cany_model.specs.Bus.State.{EndedIncarnation, RunState, node_at, original}
 use Rattle.cany_model.specs.Promises.Hypothesis.{IsWithin}
 use Rattle.cany_model.specs.Runs.Incarnations.{incarnations}
 use Rattle.cany_model.specs.Runs.RoundRobin.{round_robin}
 use Rattle.cany_model.specs.Runs.Run.{run}
-use Rattle.cany_model.proofs.Among.{Among, Among-drop, Among-from_Contains, Among-map, Among-weaker, Contains-from_Among, Contains-head, Each-of, any-from_Among}
+use Rattle.cany_model.proofs.Among.{Among, Among-drop, Among-from_Contains, Among-map, Among-weaker, Contains-cons, Contains-from_Among, Contains-head, Each-of, any-from_Among}
 use Rattle.cany_model.proofs.Bus.Carried.{is_carried}
 use Rattle.cany_model.proofs.Bus.Notes.{given-Got}
 use Rattle.cany_model.proofs.Promises.BreakFacts.{first_break_exact}
-use Rattle.cany_laws.specs.Logs.{IsIncarnation, present_of}
+use Rattle.cany_model.proofs.Timed.Views.LoggedViews.{installed_read}
+use Rattle.cany_laws.specs.Logs.{IsIncarnation, followed_by, past_of, present_of}
 use Rattle.cany_laws.specs.Removal.{GaveNoJoin, got_join}
+use Rattle.cany_laws.specs.Views.{installed_as}
+use Rattle.cany_laws.proofs.EachView.{past_length}
+use Rattle.cany_laws.proofs.Lives.{lived}
 use Rattle.cany_law_rows.proofs.RowWords.{of_nodes, seen_by, seen_in, seen_of, seen_of_is, within, Seen}
 
 -- ---- what a row has computed
@@ -52,6 +58,16 @@ unfolding seen_by seen_in
 is_within {A = A} ask sc answer row = (first_break_exact sc.params (run_of sc).trace).0 (ap (λ (x : Seen A). x.broken) (sym (seen_of_is ask sc) ∙ row))
 
 -- ---- incarnations
+
+-- the earlier one of a node that has one
+pub is_earlier : (sc : ScenarioParts) (s : RunState) (i : ℕ) (e : EndedIncarnation) → i < sc.params.nodes → (node_at s.nodes i).ended ≡ e ∷ []
+    → IsIncarnation sc s i e
+is_earlier sc s i e there ended =
+    record { there = there; stands = subst (λ all. Contains (present_of s i ∷ all) e) (sym ended) (Contains-cons (present_of s i) e (e ∷ []) (Contains-head e [])) }
+
+-- the incarnation of the opening, which stopped in a slot and had read all before it
+abbrev pub stopped_in : ℕ → EndedIncarnation
+stopped_in slot = record { incarnation = original; next = slot; stopped = Some slot }
 
 pub is_present : (sc : ScenarioParts) (s : RunState) (i : ℕ) → i < sc.params.nodes → IsIncarnation sc s i (present_of s i)
 is_present sc s i there = record { there = there; stands = Contains-head (present_of s i) (node_at s.nodes i).ended }
@@ -91,6 +107,26 @@ each_of test first (suc n) all t from below =
       | inl same ↦ subst (λ u. test u ≡ true) same parts.0
       | inr other ↦ each_of test (first + 1) n parts.1 t (omega (arith, from, other)) (omega (arith, below))
     ]
+
+-- and what none of them has
+pub none_of : (test : ℕ → Bool) (first n : ℕ) → list_any test (range_with_len first n) ≡ false → (t : ℕ) → first ≤ t → t < first + n → test t ≡ false
+none_of test first zero none t from below = absurd (omega (arith, from, below))
+none_of test first (suc n) none t from below = elim (cases_eq first t) [
+  | inl same ↦ subst (λ u. test u ≡ false) same
+      (false_from_ne_true (test first) (λ has. both_ways (list_any test (range_with_len first (suc n))) none (or_left (test first) _ has)))
+  | inr other ↦
+      none_of test (first + 1) n
+      (false_from_ne_true (list_any test (range_with_len (first + 1) n)) (λ has.
+      both_ways (list_any test (range_with_len first (suc n))) none (or_right (test first) _ has)))
+      t (omega (arith, from, other)) (omega (arith, below))
+]
+
+-- what holds of the first three numbers
+pub below_three : (P : ℕ → Type 0) → P 0 → P 1 → P 2 → (k : ℕ) → k < 3 → P k
+below_three P none one two zero below = none
+below_three P none one two (suc zero) below = one
+below_three P none one two (suc (suc zero)) below = two
+below_three P none one two (suc (suc (suc k))) below = absurd (omega (arith, below))
 
 -- the note of this age
 pub note_in : (trace : List SlotNote) (age : ℕ) (note : SlotNote) → take 1 (drop age trace) ≡ note ∷ [] → Contains trace note
@@ -132,3 +168,23 @@ of_vector P installed found same holds v also = subst P (same_Some found v (sym 
 -- and where none was, all does
 pub of_no_vector : (P : Nodes → Type 0) (v : Nodes) → None ≡ Some v → P v
 of_no_vector P v never = absurd (none-some v never)
+
+-- an incarnation that installs a vector has read the end of the cycle
+pub has_read_the_end : (sc : ScenarioParts) (journal : List Step) (i k : ℕ) (e : EndedIncarnation) → IsIncarnation sc (run sc journal) i e
+    → (v : Nodes) → installed_as sc (run sc journal) i e k ≡ Some v → k * sc.params.cycle + sc.params.bound < e.next
+has_read_the_end sc journal i k e is v installs =
+    omega (arith, installed_read (followed_by sc e) i k (past_of (run sc journal) i e) v installs, past_length sc journal i e (lived sc journal i e is))
+
+-- ---- logs
+
+-- if the entry is a delivery, this holds of its slot, and if it is a failure, that of its slot and
+-- of the node
+abbrev pub OfEntry : (ℕ → Type 0) → (ℕ → ℕ → Type 0) → LogEntry → Type 0
+OfEntry P Q (Deliver slot service msg payload) = P slot
+OfEntry P Q (Failed slot node cycle) = Q slot node
+OfEntry P Q (View slot number members) = Unit {0}
+
+-- what holds of the entries of a log holds of each
+pub of_entry : (P : ℕ → Type 0) (Q : ℕ → ℕ → Type 0) (log : List LogEntry) → AllByRecursion (OfEntry P Q) log
+    → (entry : LogEntry) → Contains log entry → OfEntry P Q entry
+of_entry P Q log holds entry stands = Each-of (OfEntry P Q) entry log holds (Among-from_Contains log entry stands)
