@@ -1,12 +1,16 @@
 -- Worked rows of one order for all logs: of an incarnation what it has delivered, and the order.
-use Rattle.std.specs.Prelude.{◌≡◌, ℕ, ◌++◌, List, [], ◌∷◌, codes, refl}
+use Rattle.std.specs.Prelude.{◌≡◌, ℕ, ◌++◌, List, [], ◌∷◌, codes, length, refl}
+use Rattle.std.proofs.Common.{ap, arith, length-append, ◌∙◌, sym}
 use Rattle.cany_base.specs.declared.message.Service.TheVariants.{Tot}
 use Rattle.cany_base.specs.declared.rule.Verdict.TheVariants.{Clean, Lost}
 use Rattle.cany_base.specs.declared.step.Step.{Step}
 use Rattle.cany_base.specs.Scenario.{ScenarioParts}
 use Rattle.cany_model.specs.Bus.State.{EndedIncarnation, RunState}
 use Rattle.cany_model.specs.Promises.Order.{Content, order, order_by}
-use Rattle.cany_laws.specs.Order.{deliveries_as, is_accepted_by_it_or_some, ordered_deliveries}
+use Rattle.cany_model.specs.Runs.Run.{run}
+use Rattle.cany_laws.specs.Logs.{present_of}
+use Rattle.cany_laws.specs.Order.{FollowsOrderAs, IsPrefixOf, deliveries_as, is_accepted_by_it_or_some, ordered_deliveries}
+use Rattle.cany_law_rows.proofs.PremiseWords.{asked_by}
 use Rattle.cany_law_rows.proofs.RowWords.{again, key, of_nodes, repeated, row, seen_by, seen_of, send, slot_rule, steps, three_at_lag_1, two, within}
 
 -- since which slot it takes part, what it has delivered, of this what a running node has accepted,
@@ -58,10 +62,50 @@ of_the_stopped = record {
   longer = content 0 0 3 ∷ content 2 0 1 ∷ content 1 0 2 ∷ [];
 }
 
-a_prefix_without_the_lone_one :
-    seen_by (of_nodes (parts_of at_lag_1) 3) at_lag_1 its_journal ≡ within ((of_the_others ∷ []) ∷ (of_the_others ∷ []) ∷ (of_the_stopped ∷ []) ∷ [])
+-- of all incarnations, and of that of node 2
+record Followed : Type 0 where
+  all : List (List Parts)
+  stopped : Parts
+
+abbrev followed_in : RunState → Followed
+followed_in s = record { all = of_nodes (parts_of at_lag_1) 3 s; stopped = parts_of at_lag_1 s 2 (present_of s 2) }
+
+abbrev followed : Followed
+followed = record { all = (of_the_others ∷ []) ∷ (of_the_others ∷ []) ∷ (of_the_stopped ∷ []) ∷ []; stopped = of_the_stopped }
+
+a_prefix_without_the_lone_one : seen_by followed_in at_lag_1 its_journal ≡ within followed
 unfolding row at_lag_1 its_journal
 a_prefix_without_the_lone_one = refl
+
+abbrev its_run : RunState
+its_run = run at_lag_1 its_journal
+
+seen_at_the_stopped : parts_of at_lag_1 its_run 2 (present_of its_run 2) ≡ of_the_stopped
+seen_at_the_stopped =
+    ap (λ (seen : Followed). seen.stopped) (asked_by followed_in at_lag_1 its_journal (within followed) a_prefix_without_the_lone_one)
+
+-- two lists, of which the second is the first with some more
+prefix_of : (first all some rest : List Content) → first ≡ some → all ≡ some ++ rest → IsPrefixOf first all
+prefix_of first all some rest here whole = (rest, whole ∙ ap (λ xs. xs ++ rest) (sym here))
+
+stopped_node_follows_the_order : FollowsOrderAs at_lag_1 its_run 2 (present_of its_run 2)
+stopped_node_follows_the_order = record {
+  ordered = prefix_of (ordered_deliveries at_lag_1 its_run 2 (present_of its_run 2)) (order at_lag_1 its_run (present_of its_run 2).incarnation.from)
+      of_the_stopped.ordered [] (ap (λ (parts : Parts). parts.ordered) seen_at_the_stopped) (ap (λ (parts : Parts). parts.order) seen_at_the_stopped);
+  whole = prefix_of (deliveries_as at_lag_1 its_run 2 (present_of its_run 2))
+      (order_by (is_accepted_by_it_or_some at_lag_1 its_run 2 (present_of its_run 2)) (present_of its_run 2).incarnation.from its_run.trace)
+      of_the_stopped.delivered [] (ap (λ (parts : Parts). parts.delivered) seen_at_the_stopped) (ap (λ (parts : Parts). parts.longer) seen_at_the_stopped);
+}
+
+-- with its lone message what it has delivered is none
+not_with_the_lone_one :
+    IsPrefixOf (deliveries_as at_lag_1 its_run 2 (present_of its_run 2)) (order at_lag_1 its_run (present_of its_run 2).incarnation.from) → ⊥
+not_with_the_lone_one says =
+    let all : List Content = deliveries_as at_lag_1 its_run 2 (present_of its_run 2) in
+    let sizes = ap length says.1 ∙ length-append all says.0 in
+    let three = ap (λ (parts : Parts). length parts.delivered) seen_at_the_stopped in
+    let two_of_them = ap (λ (parts : Parts). length parts.order) seen_at_the_stopped in
+    omega (arith, sizes, three, two_of_them)
 
 -- ---- a node that started again
 
