@@ -1,7 +1,7 @@
 -- Worked rows of JOINs that do not help: one that comes too early, one of an incarnation that begins
 -- too late, and one that a node without the vector does not count.
 use Rattle.std.specs.Prelude.{◌≡◌, ℕ, ◌+◌, ◌*◌, ◌<◌, true, false, List, [], ◌∷◌, Option, Some, None, refl}
-use Rattle.std.proofs.Common.{ap, arith, inl, inr, lit<, ◌∙◌, sym}
+use Rattle.std.proofs.Common.{ap, arith, inl, inr, lit<, lit≤, ◌∙◌, sym}
 use Rattle.std.proofs.lemmas.Bool.{false≢true}
 use Rattle.std.proofs.lemmas.Option.{none-some}
 use Rattle.cany_base.specs.declared.log_entry.LogEntry.TheVariants.{Failed, View}
@@ -12,8 +12,8 @@ use Rattle.cany_model.specs.declared.breaks.BreakKind.TheVariants as kind
 use Rattle.cany_model.specs.Bus.State.{EndedIncarnation, RunState}
 use Rattle.cany_laws.specs.Admission.{InstalledItBefore, IsAdmittedByEach, IsOutsideAtEach, KnowsItOutside}
 use Rattle.cany_laws.specs.Logs.{present_of}
-use Rattle.cany_laws.specs.Membership.{members_as}
-use Rattle.cany_laws.specs.Views.{installed_as}
+use Rattle.cany_laws.specs.Membership.{HasOneMembership, members_as}
+use Rattle.cany_laws.specs.Views.{EachInstallsOneVector, HasReadEndAs, installed_as}
 use Rattle.cany_law_rows.proofs.PremiseWords.{asked_of, is_present, of_vector, run_of}
 use Rattle.cany_law_rows.proofs.RowWords.{again, joining, lived, lived_in, lives_of, of_nodes, row, seen_of, set, slot_rule, two, within, Lived, Seen}
 
@@ -133,14 +133,17 @@ hidden =
     let sc = two 34 [] (slot_rule 15 (Silent (set 2)) 0 ∷ []) [] in
     record sc { params = record sc.params { bound = 5; cycle = 14; life = 6; silence = 9 }; members = set 1; joins = again 2 1 ∷ [] }
 
--- of an incarnation since which slot it takes part, and the vectors of cycles 1 and 2
+-- of an incarnation since which slot it takes part, the next slot that it would read, its view after
+-- slot 19, and the vectors of cycles 1 and 2
 record Vectors : Type 0 where
   from : ℕ
+  next : ℕ
+  view : Nodes
   vector_1 : Option Nodes
   vector_2 : Option Nodes
 
 abbrev vectors_in : RunState → ℕ → EndedIncarnation → Vectors
-vectors_in s i e = record { from = e.incarnation.from; vector_1 = installed_as hidden s i e 1; vector_2 = installed_as hidden s i e 2 }
+vectors_in s i e = record { from = e.incarnation.from; next = e.next; view = members_as hidden s 19 i e; vector_1 = installed_as hidden s i e 1; vector_2 = installed_as hidden s i e 2 }
 
 -- of the present ones
 record Hidden : Type 0 where
@@ -154,8 +157,8 @@ abbrev found_hidden : Seen Hidden
 found_hidden = record {
   broken = Some (record { kind = kind.Silent; slot = 15 });
   seen = record {
-    first = record { from = 0; vector_1 = Some (set 3); vector_2 = Some (set 1) };
-    second = record { from = 0; vector_1 = None; vector_2 = Some (set 1) };
+    first = record { from = 0; next = 34; view = set 3; vector_1 = Some (set 3); vector_2 = Some (set 1) };
+    second = record { from = 0; next = 34; view = set 1; vector_1 = None; vector_2 = Some (set 1) };
   };
 }
 
@@ -185,3 +188,37 @@ needs_its_own says =
       | inl there ↦ false≢true there
       | inr former ↦ none-some former.1.0 (sym before ∙ former.1.1)
     ]
+
+-- Both have read the end of cycle 1, and only one has a vector there; nor have they one view then.
+both_have_read_the_end : HasReadEndAs hidden hidden_run 1 0 (present_of hidden_run 0) × HasReadEndAs hidden hidden_run 1 1 (present_of hidden_run 1)
+unfolding two hidden
+both_have_read_the_end = (
+  record {
+    is = is_present hidden hidden_run 0 (lit< tt);
+    took_part = omega (arith, ap (λ (seen : Hidden). seen.first.from) seen_apart);
+    read = omega (arith, ap (λ (seen : Hidden). seen.first.next) seen_apart);
+  },
+  record {
+    is = is_present hidden hidden_run 1 (lit< tt);
+    took_part = omega (arith, ap (λ (seen : Hidden). seen.second.from) seen_apart);
+    read = omega (arith, ap (λ (seen : Hidden). seen.second.next) seen_apart);
+  },
+)
+
+not_one_vector : EachInstallsOneVector hidden hidden_run 1 → ⊥
+not_one_vector says =
+    none-some (set 3)
+    (sym (ap (λ (seen : Hidden). seen.second.vector_1) seen_apart)
+    ∙ says.alike 1 0 (present_of hidden_run 1) (present_of hidden_run 0) both_have_read_the_end.1 both_have_read_the_end.0
+    ∙ ap (λ (seen : Hidden). seen.first.vector_1) seen_apart)
+
+not_one_membership : HasOneMembership hidden hidden_run → ⊥
+unfolding two hidden has
+not_one_membership says =
+    let first = both_have_read_the_end.0 in
+    let second = both_have_read_the_end.1 in
+    let same = says.installed 0 1 (present_of hidden_run 0) (present_of hidden_run 1) first.is second.is 1 first.took_part second.took_part (set 3)
+    (ap (λ (seen : Hidden). seen.first.vector_1) seen_apart) 19 (lit≤ tt) first.read second.read in
+    false≢true
+    (sym (ap (λ (seen : Hidden). has seen.second.view 1) seen_apart) ∙ sym (ap (λ (v : Nodes). has v 1) same)
+    ∙ ap (λ (seen : Hidden). has seen.first.view 1) seen_apart)

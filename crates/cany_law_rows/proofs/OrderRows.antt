@@ -1,6 +1,6 @@
 -- Worked rows of one order for all logs: of an incarnation what it has delivered, and the order.
 use Rattle.std.specs.Prelude.{◌≡◌, ℕ, ◌++◌, List, [], ◌∷◌, codes, length, refl}
-use Rattle.std.proofs.Common.{ap, arith, length-append, ◌∙◌, sym}
+use Rattle.std.proofs.Common.{ap, arith, length-append, ◌∙◌}
 use Rattle.cany_base.specs.declared.message.Service.TheVariants.{Tot}
 use Rattle.cany_base.specs.declared.rule.Verdict.TheVariants.{Clean, Lost}
 use Rattle.cany_base.specs.declared.step.Step.{Step}
@@ -9,8 +9,8 @@ use Rattle.cany_model.specs.Bus.State.{EndedIncarnation, RunState}
 use Rattle.cany_model.specs.Promises.Order.{Content, order, order_by}
 use Rattle.cany_model.specs.Runs.Run.{run}
 use Rattle.cany_laws.specs.Logs.{present_of}
-use Rattle.cany_laws.specs.Order.{FollowsOrderAs, IsPrefixOf, deliveries_as, is_accepted_by_it_or_some, ordered_deliveries}
-use Rattle.cany_law_rows.proofs.PremiseWords.{asked_by}
+use Rattle.cany_laws.specs.Order.{EachFollowsOrder, IsPrefixOf, deliveries_as, is_accepted_by_it_or_some, ordered_deliveries}
+use Rattle.cany_law_rows.proofs.PremiseWords.{asked_by, of_each}
 use Rattle.cany_law_rows.proofs.RowWords.{again, key, of_nodes, repeated, row, seen_by, seen_of, send, slot_rule, steps, three_at_lag_1, two, within}
 
 -- since which slot it takes part, what it has delivered, of this what a running node has accepted,
@@ -80,22 +80,22 @@ a_prefix_without_the_lone_one = refl
 abbrev its_run : RunState
 its_run = run at_lag_1 its_journal
 
+seen_in_it : followed_in its_run ≡ followed
+seen_in_it = asked_by followed_in at_lag_1 its_journal (within followed) a_prefix_without_the_lone_one
+
 seen_at_the_stopped : parts_of at_lag_1 its_run 2 (present_of its_run 2) ≡ of_the_stopped
-seen_at_the_stopped =
-    ap (λ (seen : Followed). seen.stopped) (asked_by followed_in at_lag_1 its_journal (within followed) a_prefix_without_the_lone_one)
+seen_at_the_stopped = ap (λ (seen : Followed). seen.stopped) seen_in_it
 
--- two lists, of which the second is the first with some more
-prefix_of : (first all some rest : List Content) → first ≡ some → all ≡ some ++ rest → IsPrefixOf first all
-prefix_of first all some rest here whole = (rest, whole ∙ ap (λ xs. xs ++ rest) (sym here))
+-- each log follows the order
+abbrev Follows : ℕ → Parts → Type 0
+Follows i parts = IsPrefixOf parts.ordered parts.order × IsPrefixOf parts.delivered parts.longer
 
-stopped_node_follows_the_order : FollowsOrderAs at_lag_1 its_run 2 (present_of its_run 2)
-stopped_node_follows_the_order = record {
-  ordered = prefix_of (ordered_deliveries at_lag_1 its_run 2 (present_of its_run 2)) (order at_lag_1 its_run (present_of its_run 2).incarnation.from)
-      of_the_stopped.ordered [] (ap (λ (parts : Parts). parts.ordered) seen_at_the_stopped) (ap (λ (parts : Parts). parts.order) seen_at_the_stopped);
-  whole = prefix_of (deliveries_as at_lag_1 its_run 2 (present_of its_run 2))
-      (order_by (is_accepted_by_it_or_some at_lag_1 its_run 2 (present_of its_run 2)) (present_of its_run 2).incarnation.from its_run.trace)
-      of_the_stopped.delivered [] (ap (λ (parts : Parts). parts.delivered) seen_at_the_stopped) (ap (λ (parts : Parts). parts.longer) seen_at_the_stopped);
-}
+each_follows_the_order : EachFollowsOrder at_lag_1 its_run
+unfolding three_at_lag_1 at_lag_1
+each_follows_the_order i e is =
+    let found = of_each Follows (parts_of at_lag_1) at_lag_1 its_run followed.all (ap (λ (seen : Followed). seen.all) seen_in_it)
+    (((([], refl), ([], refl)), tt), (((([], refl), ([], refl)), tt), (((([], refl), ([], refl)), tt), tt))) i e is in
+    record { ordered = found.0; whole = found.1 }
 
 -- with its lone message what it has delivered is none
 not_with_the_lone_one :

@@ -1,15 +1,17 @@
 -- Worked rows of nodes that stop: what their logs have, and what they have accepted.
-use Rattle.std.specs.Prelude.{Bool, ◌≡◌, ℕ, ◌+◌, ◌<◌, true, false, List, [], ◌∷◌, Option, Some, refl}
+use Rattle.std.specs.Prelude.{Bool, ◌≡◌, ℕ, ◌+◌, ◌<◌, true, false, List, [], ◌∷◌, Option, Some, Contains, refl}
 use Rattle.std.proofs.Common.{ap, arith, lit<, ◌∙◌, sym}
-use Rattle.cany_base.specs.declared.log_entry.LogEntry.TheVariants.{View}
+use Rattle.cany_base.specs.declared.log_entry.LogEntry.{LogEntry}
+use Rattle.cany_base.specs.declared.log_entry.LogEntry.TheVariants.{Deliver, Failed, View}
 use Rattle.cany_base.specs.declared.message.Service.TheVariants.{Tot}
 use Rattle.cany_base.specs.declared.rule.Verdict.TheVariants.{Clean, Partial}
 use Rattle.cany_base.specs.Scenario.{ScenarioParts}
 use Rattle.cany_base.specs.Nodes.{Nodes}
 use Rattle.cany_model.specs.Bus.State.{EndedIncarnation, RunState}
+use Rattle.cany_model.proofs.Among.{Among-from_Contains, Each-of}
 use Rattle.cany_laws.specs.Acceptance.{IsAcceptedByEachOrNone, accepted_in_time_as}
-use Rattle.cany_laws.specs.Logs.{HasReadClosingAs, IsIncarnation, present_of}
-use Rattle.cany_laws.specs.Views.{EachInstallsOneVector, HasReadEndAs, installed_as}
+use Rattle.cany_laws.specs.Logs.{HasReadClosingAs, IsIncarnation, log_as, present_of}
+use Rattle.cany_laws.specs.Views.{EachHasOneView, EachInstallsOneVector, HasReadEndAs, installed_as}
 use Rattle.cany_law_rows.proofs.PremiseWords.{asked_of, is_present, of_each, run_of}
 use Rattle.cany_law_rows.proofs.RowWords.{delivers, key, lived, lived_in, of_nodes, row, seen_of, send, set, slot_rule, three, two, within, Lived}
 
@@ -170,3 +172,23 @@ each_installs_one_vector = record {
   alike = λ i j e f here there. (each_has_it i e here.is).0 ∙ sym (each_has_it j f there.is).0;
   late = λ i e is late. absurd (omega (arith, late, (each_has_it i e is).1));
 }
+
+-- and the logs have one view
+abbrev HasItsMembers : LogEntry → Type 0
+HasItsMembers (Deliver slot service msg payload) = Unit {0}
+HasItsMembers (Failed slot node cycle) = Unit {0}
+HasItsMembers (View slot number members) = members ≡ set 3
+
+each_view_has_them : (i : ℕ) (e : EndedIncarnation) → IsIncarnation stops_with_the_view view_run i e
+    → (entry : LogEntry) → Contains (log_as stops_with_the_view view_run i e) entry → HasItsMembers entry
+unfolding two stops_with_the_view
+each_view_has_them =
+    of_each (λ i (found : WithVector). (entry : LogEntry) → Contains found.came.log entry → HasItsMembers entry) with_vector stops_with_the_view view_run
+    installed.all (ap (λ (seen : Installed). seen.all) seen_at_the_end) ((of_its_view, tt), ((of_its_view, tt), tt))
+  where
+    of_its_view : (entry : LogEntry) → Contains (View 57 1 (set 3) ∷ []) entry → HasItsMembers entry
+    of_its_view entry stands = Each-of HasItsMembers entry (View 57 1 (set 3) ∷ []) (refl, tt) (Among-from_Contains (View 57 1 (set 3) ∷ []) entry stands)
+
+each_has_one_view : EachHasOneView stops_with_the_view view_run
+each_has_one_view i j e f is also number here there members others view other =
+    each_view_has_them i e is (View here number members) view ∙ sym (each_view_has_them j f also (View there number others) other)
