@@ -15,7 +15,7 @@ use Rattle.cany_laws.specs.Alarms.{HasStoppedBefore, IsTakenForFailedNowhere, Ra
 use Rattle.cany_laws.specs.Logs.{IsIncarnation, present_of}
 use Rattle.cany_laws.specs.Membership.{knowledge_as}
 use Rattle.cany_law_rows.proofs.PremiseWords.{OfEntry, asked_of, is_earlier, is_present, none_of, of_each, of_entry, run_of, stopped_in}
-use Rattle.cany_law_rows.proofs.RowWords.{again, lived, lived_in, lives_of, of_nodes, row, seen_of, set, slot_rule, two, within, Lived}
+use Rattle.cany_law_rows.proofs.RowWords.{again, lived, lived_in, of_nodes, row, seen_of, set, slot_rule, two, within, Lived}
 
 -- Node 1 stops in slot 5, starts again at the end of slot 6, takes part since slot 26, and stops
 -- again in slot 38. Node 0 tells in slot 39 that it has failed: one of its stops, that in slot 5,
@@ -108,9 +108,10 @@ no_false_alarm : RaisesNoFalseAlarm stopped_twice its_run
 unfolding two stopped_twice
 no_false_alarm i e is u r cycle told =
     let one = of_each (λ j (found : Watched). (entry : LogEntry) → Contains found.came.log entry → OfEntry (λ slot. Unit {0}) IsOfNode1 entry)
-    watched_in stopped_twice its_run alarm.all all_in_it
-    ((of_entry (λ slot. Unit {0}) IsOfNode1 of_node_0.came.log ((lit≤ tt, refl), (tt, tt)), tt),
-    ((of_entry (λ slot. Unit {0}) IsOfNode1 [] tt, (of_entry (λ slot. Unit {0}) IsOfNode1 [] tt, tt)), tt))
+    watched_in stopped_twice its_run alarm.all all_in_it (
+      (of_entry (λ slot. Unit {0}) IsOfNode1 of_node_0.came.log ((lit≤ tt, refl), (tt, tt)), tt),
+      ((of_entry (λ slot. Unit {0}) IsOfNode1 [] tt, (of_entry (λ slot. Unit {0}) IsOfNode1 [] tt, tt)), tt),
+    )
     i e is (Failed u r cycle) told in
     subst (λ node. HasStoppedBefore stopped_twice its_run node u) (sym one.1) (stopped_before u one.0)
 
@@ -130,9 +131,10 @@ node_0_has_failed_nowhere = record {
       none_of (has_failed its_run i e 0) 0 60 found.1 t (omega arith) (omega (arith, read, found.0));
   told = λ i e is u cycle told.
       let other = of_each (λ j (found : Watched). (entry : LogEntry) → Contains found.came.log entry → OfEntry (λ slot. Unit {0}) IsOfAnother entry)
-      watched_in stopped_twice its_run alarm.all all_in_it
-      ((of_entry (λ slot. Unit {0}) IsOfAnother of_node_0.came.log ((λ same. omega (arith, same)), (tt, tt)), tt),
-      ((of_entry (λ slot. Unit {0}) IsOfAnother [] tt, (of_entry (λ slot. Unit {0}) IsOfAnother [] tt, tt)), tt))
+      watched_in stopped_twice its_run alarm.all all_in_it (
+        (of_entry (λ slot. Unit {0}) IsOfAnother of_node_0.came.log ((λ same. omega (arith, same)), (tt, tt)), tt),
+        ((of_entry (λ slot. Unit {0}) IsOfAnother [] tt, (of_entry (λ slot. Unit {0}) IsOfAnother [] tt, tt)), tt),
+      )
       i e is (Failed u 0 cycle) told in
       other refl;
 }

@@ -57,10 +57,11 @@ no_silent_slot =
   where
     each_lacks : (trace : List SlotNote) → list_any is_silent_slot trace ≡ false → AllByRecursion (λ note. is_silent_slot note ≡ false) trace
     each_lacks [] none = tt
-    each_lacks (note ∷ trace) none =
-        (none_has is_silent_slot (note ∷ trace) none note (Contains-head note trace),
-        each_lacks trace (false_from_ne_true (list_any is_silent_slot trace) (λ has.
-        both_ways (list_any is_silent_slot (note ∷ trace)) none (or_right (is_silent_slot note) (list_any is_silent_slot trace) has))))
+    each_lacks (note ∷ trace) none = (
+      none_has is_silent_slot (note ∷ trace) none note (Contains-head note trace),
+      each_lacks trace (false_from_ne_true (list_any is_silent_slot trace) (λ has.
+          both_ways (list_any is_silent_slot (note ∷ trace)) none (or_right (is_silent_slot note) (list_any is_silent_slot trace) has))),
+    )
 
 as_often_as_nodes_and_lag : CarriesFewOf accepted_by_both (run_of accepted_by_both) (key 0 0)
 unfolding two accepted_by_both

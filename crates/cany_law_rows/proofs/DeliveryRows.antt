@@ -1,8 +1,6 @@
 -- Worked rows of a TOTCAN message that is accepted and delivered in time.
 use Rattle.std.specs.Prelude.{Bool, ◌≡◌, ℕ, ◌+◌, ◌<◌, ◌≤◌, true, false, List, [], ◌∷◌, Contains, refl}
-use Rattle.std.proofs.Common.{ap, arith, lit<, lit≤, ◌∙◌, subst, sym}
-use Rattle.std.proofs.lemmas.Bool.{false≢true}
-use Rattle.cany_base.specs.declared.log_entry.LogEntry.{LogEntry}
+use Rattle.std.proofs.Common.{ap, arith, lit<, lit≤, subst, sym}
 use Rattle.cany_base.specs.declared.log_entry.LogEntry.TheVariants.{Deliver, Failed}
 use Rattle.cany_base.specs.declared.message.Service.TheVariants.{Tot}
 use Rattle.cany_base.specs.declared.rule.Verdict.TheVariants.{Clean}
@@ -10,8 +8,8 @@ use Rattle.cany_base.specs.Scenario.{ScenarioParts}
 use Rattle.cany_model.specs.Bus.State.{EndedIncarnation, RunState}
 use Rattle.cany_model.specs.Rules.Messages.{Message, message_key}
 use Rattle.cany_laws.specs.Acceptance.{DeliversInTime, IsDeliveredByEachOrNone, IsDeliveredInTime, accepted_in_time_as}
-use Rattle.cany_laws.specs.Logs.{HasReadClosingAs, IsIncarnation, log_as, present_of}
-use Rattle.cany_law_rows.proofs.PremiseWords.{OfEntry, asked_of, is_present, of_each, of_entry, run_of}
+use Rattle.cany_laws.specs.Logs.{IsIncarnation, log_as, present_of}
+use Rattle.cany_law_rows.proofs.PremiseWords.{asked_of, is_present, of_each, of_entry, run_of}
 use Rattle.cany_law_rows.proofs.RowWords.{again, delivers, key, lived, lived_in, of_nodes, row, seen_of, send, slot_rule, two, within, Lived}
 
 -- Node 1 stops in slot 5, starts again at the end of slot 6, and takes part since slot 26. Node 0
@@ -70,9 +68,10 @@ each_that_read_it : (i : ℕ) (e : EndedIncarnation) → IsIncarnation sent_late
     → DeliversInTime sent_later its_run its_message 31 i e
 unfolding two sent_later
 each_that_read_it i e is read =
-    let found = of_each DeliversIt taken_in sent_later its_run sent.all (ap (λ (seen : Sent). seen.all) seen_in_it)
-    (((λ next. (31, (0, lit< tt, refl), lit≤ tt, lit≤ tt)), tt),
-    (((λ next. (32, (0, lit< tt, refl), lit≤ tt, lit≤ tt)), ((λ next. absurd (omega (arith, next))), tt)), tt)) i e is read in
+    let found = of_each DeliversIt taken_in sent_later its_run sent.all (ap (λ (seen : Sent). seen.all) seen_in_it) (
+      ((λ next. (31, (0, lit< tt, refl), lit≤ tt, lit≤ tt)), tt),
+      (((λ next. (32, (0, lit< tt, refl), lit≤ tt, lit≤ tt)), ((λ next. absurd (omega (arith, next))), tt)), tt),
+    ) i e is read in
     record { slot = found.0; stands = found.1; since = found.2; by_then = found.3 }
 
 delivered_in_time : IsDeliveredInTime sent_later its_run its_message 31

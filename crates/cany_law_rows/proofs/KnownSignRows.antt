@@ -1,6 +1,6 @@
 -- A worked row of a silence that is not detected in its cycle: the observer knew the sign of this
 -- cycle before.
-use Rattle.std.specs.Prelude.{Bool, ◌≡◌, ℕ, ◌+◌, ◌<◌, ◌≤◌, true, false, List, [], ◌∷◌, take, refl}
+use Rattle.std.specs.Prelude.{Bool, ◌≡◌, ℕ, ◌+◌, ◌<◌, ◌≤◌, true, false, [], ◌∷◌, take, refl}
 use Rattle.std.specs.List.{list_all, list_any, range_with_len}
 use Rattle.std.proofs.Common.{ap, arith, inr, lit<, lit≤, ◌∙◌, sym}
 use Rattle.std.proofs.lemmas.Bool.{false≢true}

@@ -1,8 +1,8 @@
 -- Worked rows of settled messages, and of what is final of one: a message of which all is, one that
 -- is still relayed, one that is still to be delivered, and one whose slot is still to come.
-use Rattle.std.specs.Prelude.{Bool, ◌≡◌, ℕ, ◌++◌, ◌<◌, ◌≤◌, ◌&&◌, true, false, nat_le, List, [], ◌∷◌, Contains, Some, codes, drop, take, refl}
+use Rattle.std.specs.Prelude.{Bool, ◌≡◌, ℕ, ◌++◌, ◌<◌, ◌&&◌, true, false, nat_le, List, [], ◌∷◌, Contains, Some, codes, drop, take, refl}
 use Rattle.std.specs.List.{list_any}
-use Rattle.std.proofs.Common.{ap, arith, lit<, lit≤, ◌∙◌, subst, sym}
+use Rattle.std.proofs.Common.{ap, arith, lit<, ◌∙◌, subst, sym}
 use Rattle.std.proofs.lemmas.Bool.{and_from, both_ways, false_from_ne_true, false≢true, le-leb}
 use Rattle.cany_base.specs.declared.class.Class.TheVariants as class
 use Rattle.cany_base.specs.declared.log_entry.LogEntry.{LogEntry}
@@ -14,7 +14,7 @@ use Rattle.cany_base.specs.declared.step.Step.{Step}
 use Rattle.cany_base.specs.Scenario.{ScenarioParts}
 use Rattle.cany_model.specs.Bus.Frames.{same_class, same_identity}
 use Rattle.cany_model.specs.Bus.Slot.{carried}
-use Rattle.cany_model.specs.Bus.State.{EndedIncarnation, RunState, slots_run}
+use Rattle.cany_model.specs.Bus.State.{RunState, slots_run}
 use Rattle.cany_model.specs.Promises.Settled.{is_settled}
 use Rattle.cany_model.specs.Rules.Messages.{Message, message_key}
 use Rattle.cany_model.specs.Runs.Run.{all_read, run}
@@ -94,9 +94,10 @@ it_is_final = record {
   delivered = λ i e is slot service payload stands.
       let before : slot < 3 =
       of_each (λ j log. (entry : LogEntry) → Contains log entry → OfEntry (λ at. at < 3) (λ at node. Unit {0}) entry) (log_as at_once) at_once
-      (run at_once (three_slots ++ three_slots)) later.logs (ap (λ (seen : Later). seen.logs) seen_later)
-      ((of_entry (λ at. at < 3) (λ at node. Unit {0}) (delivers 1 Ed 0 0 (1 ∷ []) ∷ []) (lit< tt, tt), tt),
-      ((of_entry (λ at. at < 3) (λ at node. Unit {0}) (delivers 1 Ed 0 0 (1 ∷ []) ∷ []) (lit< tt, tt), tt), tt)) i e is
+      (run at_once (three_slots ++ three_slots)) later.logs (ap (λ (seen : Later). seen.logs) seen_later) (
+        (of_entry (λ at. at < 3) (λ at node. Unit {0}) (delivers 1 Ed 0 0 (1 ∷ []) ∷ []) (lit< tt, tt), tt),
+        ((of_entry (λ at. at < 3) (λ at node. Unit {0}) (delivers 1 Ed 0 0 (1 ∷ []) ∷ []) (lit< tt, tt), tt), tt),
+      ) i e is
       (Deliver slot service (message_key its_message) payload) stands in
       omega (arith, before, ran_three);
 }

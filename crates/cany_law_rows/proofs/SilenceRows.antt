@@ -1,11 +1,10 @@
 -- Worked rows of a node that is not heard: when it has failed, and that it is out of the view of
 -- the next cycle.
-use Rattle.std.specs.Prelude.{Bool, ◌≡◌, ℕ, ◌+◌, ◌-◌, ◌<◌, Contains, true, false, List, [], ◌∷◌, Option, Some, None, take, refl}
+use Rattle.std.specs.Prelude.{Bool, ◌≡◌, ℕ, ◌+◌, ◌-◌, ◌<◌, true, false, List, [], ◌∷◌, Option, Some, None, take, refl}
 use Rattle.std.specs.List.{list_all, list_any, range_with_len}
 use Rattle.std.proofs.Common.{ap, arith, inl, inr, lit<, lit≤, ◌∙◌, sym}
 use Rattle.std.proofs.lemmas.Bool.{false≢true}
-use Rattle.cany_base.specs.declared.log_entry.LogEntry.TheVariants.{Failed, View}
-use Rattle.cany_base.specs.declared.rule.Verdict.TheVariants.{Clean, Lost, Partial}
+use Rattle.cany_base.specs.declared.rule.Verdict.TheVariants.{Clean}
 use Rattle.cany_base.specs.Scenario.{ScenarioParts}
 use Rattle.cany_model.specs.Rules.Knowledge.{hears_life, knows}
 use Rattle.cany_laws.specs.Detection.{FailedAtStart, HasFailedBy, HearsNothingOf, IsDetected, IsLeftOut, WasSilentAtStart}
@@ -15,7 +14,7 @@ use Rattle.cany_model.specs.Bus.State.{EndedIncarnation, RunState}
 use Rattle.cany_laws.specs.Membership.{knowledge_as, members_as}
 use Rattle.cany_laws.specs.Views.{installed_as}
 use Rattle.cany_law_rows.proofs.PremiseWords.{asked_of, each_of, is_present, of_each, of_no_vector, of_vector, run_of}
-use Rattle.cany_law_rows.proofs.RowWords.{again, lived, lived_in, lives_of, of_nodes, row, seen_of, set, slot_rule, three_by, two, within, Lived}
+use Rattle.cany_law_rows.proofs.RowWords.{of_nodes, row, seen_of, set, slot_rule, two, within}
 
 -- Node 1 stops in slot 5, and never showed life. A cycle starts in slot 38, and the next one in
 -- slot 76; it ends in slot 95.

@@ -2,7 +2,7 @@
 -- again and does not stay.
 use Rattle.std.specs.Prelude.{◌≡◌, ℕ, ◌+◌, ◌*◌, ◌<◌, ◌≤◌, Bool, true, false, List, [], ◌∷◌, Some, None, Option, refl}
 use Rattle.std.specs.List.{list_any}
-use Rattle.std.proofs.Common.{ap, arith, lit<, lit≤, ◌∙◌, sym}
+use Rattle.std.proofs.Common.{ap, arith, lit<, lit≤}
 use Rattle.std.proofs.lemmas.Bool.{false≢true}
 use Rattle.cany_base.specs.declared.log_entry.LogEntry.TheVariants.{Failed, View}
 use Rattle.cany_base.specs.declared.rule.Verdict.TheVariants.{Clean}
@@ -154,9 +154,10 @@ one_has_it = of_vector (λ v. has v 0 ≡ true) (Some (set 1)) (set 1) refl refl
 node_0_stays : StandsInEachVector back_unheard its_run 0 4
 unfolding two back_unheard
 node_0_stays j f is k v installs later =
-    let found = of_each KeepsNode0 kept_in back_unheard its_run stayed.all (ap (λ (seen : Stayed). seen.all) seen_in_it)
-    (((lit≤ tt, (none_has_it, (both_have_it, one_has_it))), tt),
-    (((lit≤ tt, (none_has_it, (both_have_it, one_has_it))), ((lit≤ tt, (none_has_it, (none_has_it, none_has_it))), tt)), tt)) j f is in
+    let found = of_each KeepsNode0 kept_in back_unheard its_run stayed.all (ap (λ (seen : Stayed). seen.all) seen_in_it) (
+      ((lit≤ tt, (none_has_it, (both_have_it, one_has_it))), tt),
+      (((lit≤ tt, (none_has_it, (both_have_it, one_has_it))), ((lit≤ tt, (none_has_it, (none_has_it, none_has_it))), tt)), tt),
+    ) j f is in
     let read : k * 38 + 19 < f.next = has_read_the_end back_unheard (round_robin back_unheard) j k f is v installs in
     below_three (λ d. HaveNode0 (installed_as back_unheard its_run j f d)) found.1.0 found.1.1.0 found.1.1.1 k
     (omega (arith, read, found.0)) v installs
