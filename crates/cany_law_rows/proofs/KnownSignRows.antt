@@ -17,13 +17,13 @@ use Rattle.cany_law_rows.proofs.PremiseWords.{asked_of, each_of, is_present, run
 use Rattle.cany_law_rows.proofs.RowWords.{again, lived, lived_in, row, seen_of, set, slot_rule, three_by, within, Lived}
 
 -- So that the row is short, a cycle has 20 slots and ends in its slot 6, and a member has failed
--- after 9 slots without life, which the formulas do not allow; the run is within the hypothesis. Node 2
--- shows life in slot 12 and stops in slot 13. Node 0 stops in slot 11, starts again, and takes part
--- since slot 19. Node 1 starts cycle 1 in slot 20, finds node 2 to have failed in slot 21, and tells
--- node 0. Both install the vector of the cycle, which still has node 2, in slot 26: node 2 is new in
--- the view of node 0, and counts as alive there from this slot on. Node 0 hears nothing of it in the
--- silence after that. It does not count it as failed in slot 35 all the same, since it knows the
--- sign of cycle 1. Cycle 2 would start in slot 40.
+-- after 9 slots without life, which the formulas do not allow; the run is within the hypothesis.
+-- Node 2 shows life in slot 12 and stops in slot 13. Node 0 stops in slot 11, starts again, and
+-- takes part since slot 19. Node 1 starts cycle 1 in slot 20, finds node 2 to have failed in slot
+-- 21, and tells node 0. Both install the vector of the cycle, which still has node 2, in slot 26:
+-- node 2 is new in the view of node 0, and counts as alive there from this slot on. Node 0 hears
+-- nothing of it in the silence after that, but does not count it as failed in slot 35, since it
+-- knows the sign of cycle 1. Cycle 2 would start in slot 40.
 unfoldable known_before : ScenarioParts
 unfolding three_by
 known_before =

@@ -1,5 +1,5 @@
--- Worked rows of JOINs that do not help: one that comes too early, one of an incarnation that begins
--- too late, and one that a node without the vector does not count.
+-- Worked rows of JOINs that do not help: one that comes too early, one of an incarnation that
+-- begins too late, and one that a node without the vector does not count.
 use Rattle.std.specs.Prelude.{◌≡◌, ℕ, ◌+◌, ◌*◌, ◌<◌, false, List, [], ◌∷◌, Option, Some, None, refl}
 use Rattle.std.proofs.Common.{ap, arith, inl, inr, lit<, lit≤, ◌∙◌, sym}
 use Rattle.std.proofs.lemmas.Bool.{false≢true}
@@ -25,8 +25,8 @@ unfoldable asks_too_early : ScenarioParts
 asks_too_early = joining 104 42 (set 3) (again 47 1 ∷ []) (slot_rule 5 Clean 2 ∷ []) (again 6 1 ∷ [])
 
 -- Of all incarnations what they came to; of that of node 0 the next slot that it would read, its
--- view after slot 47, the vectors of cycles 1 and 2, and since when it takes part; and of the present one of node 1 its number
--- and the vector of cycle 0
+-- view after slot 47, the vectors of cycles 1 and 2, and since when it takes part; and of the
+-- present one of node 1 its number and the vector of cycle 0
 record TooEarly : Type 0 where
   came : List (List Lived)
   next : ℕ
@@ -125,16 +125,16 @@ admitted_and_no_member_by_itself = refl
 -- failed after 9 slots without life, which the formulas do not allow. Node 1 is no member and asks
 -- to join. The vector that has it reaches node 0 alone, since a Silent slot hides it from node 1,
 -- which the hypothesis does not allow either. So node 1 shows no life, and is out of the vector of
--- the next cycle, which both install. Node 0 had node 1 in the
--- one before, and node 1 had no vector there.
+-- the next cycle, which both install. Node 0 had node 1 in the one before, and node 1 had no vector
+-- there.
 unfoldable hidden : ScenarioParts
 unfolding two
 hidden =
     let sc = two 34 [] (slot_rule 15 (Silent (set 2)) 0 ∷ []) [] in
     record sc { params = record sc.params { bound = 5; cycle = 14; life = 6; silence = 9 }; members = set 1; joins = again 2 1 ∷ [] }
 
--- of an incarnation since which slot it takes part, the next slot that it would read, its view after
--- slot 19, and the vectors of cycles 1 and 2
+-- of an incarnation since which slot it takes part, the next slot that it would read, its view
+-- after slot 19, and the vectors of cycles 1 and 2
 record Vectors : Type 0 where
   from : ℕ
   next : ℕ

@@ -137,9 +137,9 @@ the_other_is_heard says = false≢true (sym says ∙ ap (λ (seen : Unheard). se
 unfoldable stops_for_good : ScenarioParts
 stops_for_good = three 182 [] (slot_rule 5 Clean 2 ∷ slot_rule 6 Clean 4 ∷ []) (again 7 2 ∷ [])
 
--- when node 1 stopped; of node 0 the next slot that it would read, its view after slot 5, that before
--- cycle 2 starts, and the vector of cycle 1; whether a slot carried a JOIN of node 1; and the
--- vectors of all incarnations in cycle 2
+-- when node 1 stopped; of node 0 the next slot that it would read, its view after slot 5, that
+-- before cycle 2 starts, and the vector of cycle 1; whether a slot carried a JOIN of node 1; and
+-- the vectors of all incarnations in cycle 2
 record Stopped : Type 0 where
   stopped : Option ℕ
   next : ℕ

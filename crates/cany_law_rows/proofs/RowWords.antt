@@ -57,7 +57,7 @@ three_at_lag_1 slots sends rules =
     let sc = three slots sends rules [] in
     record sc { params = record { format = One; nodes = 3; lag = 1; omit = 1; errors = 2; bound = 75; cycle = 152; life = 76; silence = 153; confirm = 10; slots = slots } }
 
--- Two nodes, of which these are members, and cycles of so many slots, with these JOINs, stops and
+-- Two nodes, of which these are members, with cycles of this length and with these JOINs, stops and
 -- restarts. A cycle ends 19 slots after its start.
 unfoldable pub joining : (slots cycle : ℕ) → Nodes → List NodeAsk → List Rule → List NodeAsk → ScenarioParts
 unfolding two

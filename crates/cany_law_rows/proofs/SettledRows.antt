@@ -200,8 +200,8 @@ a_delivery_is_to_come says =
 -- ---- a message whose slot is still to come
 
 -- Node 0 is to send in slot 30, stops in slot 1, and starts again at the end of slot 2: it takes
--- part since slot 22. After slot 1 its message is settled, and after slot 30 it is not, where all is
--- read: the law asks that the scripted slot ran.
+-- part since slot 22. After slot 1 its message is settled, and after slot 30 it is not, where all
+-- is read: the law asks that the scripted slot ran.
 unfoldable asks_again : ScenarioParts
 asks_again = two 33 (send Ed 30 0 (1 ∷ []) ∷ []) (slot_rule 1 Clean 1 ∷ []) (again 2 0 ∷ [])
 

@@ -98,8 +98,8 @@ carries_it_before slot note = carried (is_of (data_id second)) note && nat_lt no
 
 -- How many of the 57 slots from slot 1 on carried a frame that wins over it; whether the origin had
 -- asked for it by its turn of slot 0, runs, and has read how far; the slots that carried it Clean,
--- whether any before slot 3 did, and the note of slot 3; the logs; and how often it was carried, of how many
--- incarnations.
+-- whether any before slot 3 did, and the note of slot 3; the logs; and how often it was carried, of
+-- how many incarnations.
 record Awaited : Type 0 where
   others : ℕ
   asked : Bool
@@ -266,8 +266,8 @@ not_by_slot_2 says =
 
 -- ---- a disturbed slot
 
--- The same with slot 1 lost, which the hypothesis allows. The second message waits behind two
--- frames all the same, and a slot longer: a lost slot counts too.
+-- The same with slot 1 lost, which the hypothesis allows. The second message still waits behind
+-- two frames, and a slot longer: a lost slot counts too.
 unfoldable disturbed : ScenarioParts
 disturbed = two 58 (send Ed 0 0 (1 ∷ []) ∷ send Ed 0 0 (2 ∷ []) ∷ []) (slot_rule 1 Lost 0 ∷ []) []
 

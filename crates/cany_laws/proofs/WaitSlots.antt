@@ -210,8 +210,8 @@ module _ (scenario : ScenarioParts) (journal : List Step) (legal : IsLegalScenar
       false_from_ne_true (is_clean_frame x (note_at s.trace age)) (λ clean.
       never (carried_at scenario journal x first n age clean (omega (arith, ran, from, to)) (omega (arith, ran, from, to))))) short
 
-  -- a frame that none of the slots carried Clean, and that waits up to the first that does, waits in
-  -- all of them
+  -- a frame that none of the slots carried Clean, and that waits up to the first that does, waits
+  -- in all of them
   awaited_through : (x : Identity) (first n : ℕ) → IsAwaitedUntilCarried scenario journal x first n → (WasCarriedIn s.trace x first n → ⊥)
       → IsAwaitedThrough scenario journal x first n
   awaited_through x first n awaited never t from to =
