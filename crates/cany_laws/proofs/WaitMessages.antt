@@ -135,7 +135,7 @@ module _ (scenario : ScenarioParts) (journal : List Step) (within : IsWithin sce
         (Among-from_any (is_clean_frame (data_id m)) old some) in
         carried_at scenario journal (data_id m) 0 end place.0 place.3 (omega (arith, place.2)) (omega (arith, place.1, ran))
     | inr none ↦
-        let in_window = carried_in_windows scenario journal legal within (data_id m) first times ran (λ u from to. awaited none u from to) few in
+        let in_window = carried_in_windows scenario journal legal within (data_id m) first times ran (λ u from to none_before. awaited none u from to) few in
         record {
           note = in_window.note;
           stands = in_window.stands;

@@ -1,10 +1,10 @@
 -- The slots in which a running node waits with a frame: each is disturbed, carries the frame, or
 -- carries one that wins over it. So there are few of them.
-use Rattle.std.proofs.Common.{◌≡◌, ℕ, suc, ◌+◌, ◌-◌, ◌*◌, ◌<◌, ◌≤◌, ◌⊎◌, ◌&&◌, ◌||◌, inl, inr, Bool, true, false, not, List, ◌∷◌, length, refl, ap, sym, ◌∙◌, subst, arith, add-zero, length-append}
+use Rattle.std.proofs.Common.{◌≡◌, ℕ, suc, ◌+◌, ◌-◌, ◌*◌, ◌<◌, ◌≤◌, ◌⊎◌, ◌&&◌, ◌||◌, inl, inr, Bool, true, false, not, List, ◌∷◌, Contains, length, refl, ap, sym, ◌∙◌, subst, arith, add-zero, length-append}
 use Rattle.std.specs.Prelude.{Some}
 use Rattle.std.specs.List.{list_any}
 use Rattle.std.proofs.lemmas.Bool.{and_from, and_parts, both_ways, cases_Bool, cases_lt, false≢true, false_from_ne_true, not_from_false, or_cases, or_left, or_right}
-use Rattle.std.proofs.lemmas.List.{get_or-append-add, get_or_past}
+use Rattle.std.proofs.lemmas.List.{get_or-append-add, get_or_default, get_or_past}
 use Rattle.std.proofs.lemmas.List.Elements.{Contains-get_or}
 use Rattle.cany_base.specs.declared.class.Class.{Class}
 use Rattle.cany_base.specs.declared.class.Class.TheVariants as class
@@ -30,7 +30,7 @@ use Rattle.cany_model.proofs.Timed.Common.Counting.{window_at, window_back}
 use Rattle.cany_model.proofs.Timed.Guarantees.{accepts_are_few, signs_are_few}
 use Rattle.cany_model.proofs.Timed.Windows.FewVectors.{clean_is, few_vectors}
 use Rattle.cany_model.proofs.Timed.Windows.TopFrames.{clean_or_error, is_carried_clean, never_silent}
-use Rattle.cany_laws.specs.Waits.{IsAwaitedThrough, WasAwaited, WasCarriedIn, least_left, most_taken, interference, interferes, slots_from, window}
+use Rattle.cany_laws.specs.Waits.{IsAwaitedThrough, IsAwaitedUntilCarried, WasAwaited, WasCarriedIn, least_left, most_taken, interference, interferes, slots_from, window}
 use Rattle.cany_laws.proofs.WaitOrder.{NotAfterIt, carried_while}
 use Rattle.cany_laws.proofs.WaitWindows.{few_taken, is_taken, waits_at_most}
 
@@ -95,6 +95,22 @@ note_of scenario journal x t w =
       is = ap (λ age. note_at all age) (sym (add-zero (length newer))) ∙ ap (λ trace. note_at trace (length newer + 0)) split.1
           ∙ get_or-append-add newer older 0 no_note;
     }
+
+-- and the age of a note
+pub record PlaceOf (scenario : ScenarioParts) (journal : List Step) (note : SlotNote) : Type 0 where
+  pub age : ℕ
+  pub number : note.slot + suc age ≡ slots_run (run scenario journal)
+  pub is : note_at (run scenario journal).trace age ≡ note
+
+place_of : (scenario : ScenarioParts) (journal : List Step) (note : SlotNote) → Contains (run scenario journal).trace note
+    → PlaceOf scenario journal note
+place_of scenario journal note stands =
+    let trace : List SlotNote = (run scenario journal).trace in
+    let age : ℕ = stands.0 in
+    let is : note_at trace age ≡ note = get_or_default trace age no_note note stands.1 ∙ stands.2 in
+    let slot : (note_at trace age).slot ≡ length trace - 1 - age = (orderly scenario journal).numbered age stands.1 in
+    let named : (note_at trace age).slot ≡ note.slot = ap (λ (k : SlotNote). k.slot) is in
+    record { age = age; number = omega (arith, slot, named, stands.1); is = is }
 
 -- ---- one of these slots
 
@@ -194,18 +210,42 @@ module _ (scenario : ScenarioParts) (journal : List Step) (legal : IsLegalScenar
       false_from_ne_true (is_clean_frame x (note_at s.trace age)) (λ clean.
       never (carried_at scenario journal x first n age clean (omega (arith, ran, from, to)) (omega (arith, ran, from, to))))) short
 
+  -- a frame that none of the slots carried Clean, and that waits up to the first that does, waits
+  -- in all of them
+  awaited_through : (x : Identity) (first n : ℕ) → IsAwaitedUntilCarried scenario journal x first n → (WasCarriedIn s.trace x first n → ⊥)
+      → IsAwaitedThrough scenario journal x first n
+  awaited_through x first n awaited never t from to =
+      awaited t from to (λ w. never (record { note = w.note; stands = w.stands; from = w.from; to = sooner w; frame = w.frame; clean = w.clean }))
+    where
+      sooner : (w : WasCarriedIn s.trace x first (t - first)) → w.note.slot < first + n
+      sooner w = let before = w.to in omega (arith, before, from, to)
+
+  -- whether one of the slots carried it Clean is decided by their notes
+  carried_or_not : (x : Identity) (first n : ℕ) → first + n ≤ slots_run s → WasCarriedIn s.trace x first n ⊎ (WasCarriedIn s.trace x first n → ⊥)
+  carried_or_not x first n ran = elim (cases_Bool (list_any (is_clean_frame x) (slots_from s first n))) [
+    | inl some ↦ inl (carried_in_window scenario journal x first n ran some)
+    | inr none ↦ inr (λ w.
+        let place = place_of scenario journal w.note w.stands in
+        let number = place.number in
+        let from = w.from in
+        let to = w.to in
+        let here = none_in_window s x first n none place.age (omega (arith, ran, number, from, to)) (omega (arith, ran, number, from, to)) in
+        both_ways (is_clean_frame x (note_at s.trace place.age)) here (subst (λ note. is_clean_frame x note ≡ true) (sym place.is)
+        (and_from (carried (is_of x) w.note) (is_clean w.note.verdict) w.frame (ap is_clean w.clean))))
+  ]
+
   -- so one of so many windows did, where fewer frames win over it than slots are left
   pub carried_in_windows : (x : Identity) (first times : ℕ) → first + times * window scenario.params ≤ slots_run s
-      → IsAwaitedThrough scenario journal x first (times * window scenario.params)
+      → IsAwaitedUntilCarried scenario journal x first (times * window scenario.params)
       → interference x s first (times * window scenario.params) < times * least_left scenario.params
       → WasCarriedIn s.trace x first (times * window scenario.params)
   carried_in_windows x first times ran awaited few =
       let p : Parameters = scenario.params in
       let n : ℕ = times * window p in
-      elim (cases_Bool (list_any (is_clean_frame x) (slots_from s first n))) [
-        | inl some ↦ carried_in_window scenario journal x first n ran some
-        | inr none ↦
-            let most = few_waits x first n times ran awaited (none_in_window s x first n none) (omega arith) in
+      elim (carried_or_not x first n ran) [
+        | inl there ↦ there
+        | inr never ↦
+            let most = few_slots_of_waiting x first n times ran (awaited_through x first n awaited never) never (omega arith) in
             absurd (too_many (window p) (most_taken p) times (interference x s first n) most few)
       ]
     where
