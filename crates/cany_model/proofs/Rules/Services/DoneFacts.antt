@@ -8,8 +8,8 @@ use Rattle.cany_base.specs.Frame.{FrameParts}
 use Rattle.cany_base.specs.Params.{Parameters}
 use Rattle.cany_model.specs.Rules.Totcan.{done, done_at, done_from, holds, is_accepted, is_clear, is_pending, is_place, is_recent, message_in, tot_in}
 use Rattle.cany_model.proofs.Among.{Among, Among-append_cases, Among-append_left, Among-append_right}
-use Rattle.cany_model.proofs.Rules.PlaceFacts.{Place, holds-place, place-old, tot_in-holds}
-use Rattle.cany_model.proofs.Rules.TotcanFacts.{drop-next}
+use Rattle.cany_model.proofs.Rules.Services.PlaceFacts.{Place, holds-place, place-old, tot_in-holds}
+use Rattle.cany_model.proofs.Rules.Services.TotcanFacts.{drop-next}
 
 -- ---- the recursion
 

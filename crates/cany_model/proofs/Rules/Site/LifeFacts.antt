@@ -19,9 +19,9 @@ use Rattle.cany_model.specs.Rules.Knowledge.{FailureSign, Knowledge, after_life,
 use Rattle.cany_model.proofs.Among.{Each-append, Each-filter, Each-first, Each-flat_map, Each-map, Each-second, Each-weaker}
 use Rattle.cany_model.proofs.Bus.Identities.{same_class-true}
 use Rattle.cany_model.proofs.Rules.IdleBeforeTakingPart.{IsBegun, begun_before}
-use Rattle.cany_model.proofs.Rules.NoDelivery.{undelivering_is_lawful}
+use Rattle.cany_model.proofs.Rules.Services.NoDelivery.{undelivering_is_lawful}
 use Rattle.cany_model.proofs.Rules.ProtocolFacts.{IsFounded, IsKnownBy, IsLawful, enough, is_diffused, lives, signals}
-use Rattle.cany_model.proofs.Rules.KnowledgeFacts.{found_none, newly_known, begun_members}
+use Rattle.cany_model.proofs.Rules.Site.KnowledgeFacts.{found_none, newly_known, begun_members}
 
 -- ---- lists
 

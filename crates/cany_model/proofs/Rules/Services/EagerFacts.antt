@@ -13,7 +13,7 @@ use Rattle.cany_model.specs.Bus.Frames.{Identity, identity_of}
 use Rattle.cany_model.specs.Bus.History.{copies, has_own}
 use Rattle.cany_model.proofs.Among.{Among}
 use Rattle.cany_model.proofs.Rules.Waits.{Asks}
-use Rattle.cany_model.proofs.Rules.DeliveryFacts.{EntersNone}
+use Rattle.cany_model.proofs.Rules.Services.DeliveryFacts.{EntersNone}
 use Rattle.cany_model.proofs.Rules.ProtocolFacts.{IsFounded, diffused_is_relayed, enough, is_diffused, relays}
 
 -- it asks for a frame that was got, and withdraws it with more than omit copies

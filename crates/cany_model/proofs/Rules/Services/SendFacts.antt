@@ -14,8 +14,8 @@ use Rattle.cany_model.specs.Rules.Sends.{is_sent_in, is_sent_at_once, scripted_s
 use Rattle.cany_model.proofs.Among.{Among}
 use Rattle.cany_model.proofs.Rules.Waits.{Asks}
 use Rattle.cany_model.proofs.Rules.IdleBeforeTakingPart.{IsBegun}
-use Rattle.cany_model.proofs.Rules.MessageKeys.{IsOneOf, same_message}
-use Rattle.cany_model.proofs.Rules.NoDelivery.{undelivering_is_lawful}
+use Rattle.cany_model.proofs.Rules.Services.MessageKeys.{IsOneOf, same_message}
+use Rattle.cany_model.proofs.Rules.Services.NoDelivery.{undelivering_is_lawful}
 use Rattle.cany_model.proofs.Rules.ProtocolFacts.{IsFounded, IsLawful, MayStart, originates}
 
 -- ---- each effect is founded

@@ -24,8 +24,8 @@ use Rattle.cany_model.specs.Rules.Turn.{turn_effects}
 use Rattle.cany_base.specs.Cycles.{cycle_of, is_end}
 use Rattle.cany_model.specs.Rules.Views.{view_effects, withdrawn_asks}
 use Rattle.cany_model.proofs.Among.{count-no}
-use Rattle.cany_model.proofs.Rules.MembershipEntries.{withdrawn_enter}
-use Rattle.cany_model.proofs.Rules.SignRooms.{div_grows, is_view}
+use Rattle.cany_model.proofs.Rules.Site.MembershipEntries.{withdrawn_enter}
+use Rattle.cany_model.proofs.Rules.Site.SignRooms.{div_grows, is_view}
 use Rattle.cany_model.proofs.Rules.TurnEntries.{IsOfSign, failures_enter, turn_enters}
 
 abbrev count : List LogEntry → ℕ

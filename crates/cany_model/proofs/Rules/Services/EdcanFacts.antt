@@ -19,8 +19,8 @@ use Rattle.cany_model.proofs.Bus.Carried.{is_got-true}
 use Rattle.cany_model.proofs.Bus.Identities.{same_class-true, same_class_self}
 use Rattle.cany_model.proofs.Rules.Waits.{Asks}
 use Rattle.cany_model.proofs.Rules.IdleBeforeTakingPart.{AreIdle}
-use Rattle.cany_model.proofs.Rules.DeliveryFacts.{DeliversAtOnce, delivers_once, delivery_enters, delivery_founded}
-use Rattle.cany_model.proofs.Rules.EagerFacts.{eager_asks, eager_enters, eager_founded}
+use Rattle.cany_model.proofs.Rules.Services.DeliveryFacts.{DeliversAtOnce, delivers_once, delivery_enters, delivery_founded}
+use Rattle.cany_model.proofs.Rules.Services.EagerFacts.{eager_asks, eager_enters, eager_founded}
 use Rattle.cany_model.proofs.Rules.ProtocolFacts.{IsFounded, IsLawful, is_diffused}
 
 serves : edcan.delivers Ed ≡ true

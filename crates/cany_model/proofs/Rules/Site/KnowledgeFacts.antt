@@ -21,7 +21,7 @@ use Rattle.cany_model.proofs.Among.{Among, Each-weaker}
 use Rattle.cany_model.proofs.Bus.Carried.{is_got-true}
 use Rattle.cany_model.proofs.Bus.Identities.{same_class_self}
 use Rattle.cany_model.proofs.Rules.IdleBeforeTakingPart.{IsBegun, begun_before}
-use Rattle.cany_model.proofs.Rules.KnowledgeSteps.{signs_after}
+use Rattle.cany_model.proofs.Rules.Site.KnowledgeSteps.{signs_after}
 
 -- ---- silence
 

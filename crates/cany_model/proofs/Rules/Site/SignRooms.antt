@@ -21,7 +21,7 @@ use Rattle.cany_model.proofs.Among.{Among, Among-drop, Among-weaker, Each-weaker
 use Rattle.cany_model.proofs.Rules.LogFacts.{log_split, made_by}
 use Rattle.cany_model.proofs.Rules.ProtocolFacts.{IsFoundedEntry, IsSignal}
 use Rattle.cany_model.proofs.Rules.RoomFacts.{count_below, pigeonhole, signs_below, stands_below}
-use Rattle.cany_model.proofs.Rules.SignLog.{is_entry_of, signs_once}
+use Rattle.cany_model.proofs.Rules.Site.SignLog.{is_entry_of, signs_once}
 
 -- ---- each entry of a log
 

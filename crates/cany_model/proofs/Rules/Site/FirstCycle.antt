@@ -20,9 +20,9 @@ use Rattle.cany_model.specs.Rules.Views.{start_of, start_vector}
 use Rattle.cany_model.proofs.Among.{Each-of}
 use Rattle.cany_model.proofs.Bus.Identities.{same_class-true, same_class_self}
 use Rattle.cany_model.proofs.Rules.ProtocolFacts.{IsExchanged, MayAsk, vector_asked}
-use Rattle.cany_model.proofs.Rules.SignRooms.{div_grows}
-use Rattle.cany_model.proofs.Rules.KnowledgeSteps.{members_after, members_by, start_keeps, vector_after}
-use Rattle.cany_model.proofs.Rules.VectorFacts.{carries_vector}
+use Rattle.cany_model.proofs.Rules.Site.SignRooms.{div_grows}
+use Rattle.cany_model.proofs.Rules.Site.KnowledgeSteps.{members_after, members_by, start_keeps, vector_after}
+use Rattle.cany_model.proofs.Rules.Site.VectorFacts.{carries_vector}
 
 -- among what was read there is no vector of a cycle before this one
 abbrev pub HasNoEarly : ℕ → List NoticeKind → Type 0

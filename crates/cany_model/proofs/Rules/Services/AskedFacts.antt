@@ -22,11 +22,11 @@ use Rattle.cany_model.specs.Rules.Turn.{asks_for, has_asked, origin_effects}
 use Rattle.cany_model.proofs.Among.{Among-from_any, Among-weaker, any-from_Among}
 use Rattle.cany_model.proofs.Bus.Identities.{same_identity-from, same_identity-true}
 use Rattle.cany_model.proofs.Rules.Waits.{Asks}
-use Rattle.cany_model.proofs.Rules.BacklogFacts.{HasJoined, asked-few, backlog_is_lawful, next_is, next_joined}
-use Rattle.cany_model.proofs.Rules.MessageKeys.{IsOneOf}
-use Rattle.cany_model.proofs.Rules.PlaceFacts.{any_more}
+use Rattle.cany_model.proofs.Rules.Services.BacklogFacts.{HasJoined, asked-few, backlog_is_lawful, next_is, next_joined}
+use Rattle.cany_model.proofs.Rules.Services.MessageKeys.{IsOneOf}
+use Rattle.cany_model.proofs.Rules.Services.PlaceFacts.{any_more}
 use Rattle.cany_model.proofs.Rules.ProtocolFacts.{IsLawful, asks_named}
-use Rattle.cany_model.proofs.Rules.SendFacts.{is_sent_in-true, sendable_one, sends_are_lawful, sends_ask, sent_of}
+use Rattle.cany_model.proofs.Rules.Services.SendFacts.{is_sent_in-true, sendable_one, sends_are_lawful, sends_ask, sent_of}
 
 pub same_answer : (a b : Bool) → (a ≡ true → b ≡ true) → (b ≡ true → a ≡ true) → a ≡ b
 same_answer true true f g = refl

@@ -19,7 +19,7 @@ use Rattle.cany_model.specs.Rules.Vectors.{brought, end_effects, ended, exchange
 use Rattle.cany_base.specs.Cycles.{cycle_of, is_start}
 use Rattle.cany_model.specs.Rules.Views.{ask_frame, ask_of, join_asked, leave_asked, view_effects, withdrawn_asks}
 use Rattle.cany_model.proofs.Among.{Each-append, Each-flat_map, Each-map}
-use Rattle.cany_model.proofs.Rules.DeliveryFacts.{EntersNone, entered-none}
+use Rattle.cany_model.proofs.Rules.Services.DeliveryFacts.{EntersNone, entered-none}
 
 pub each : {X : Type 0} (P : X → Type 0) → ((x : X) → P x) → (xs : List X) → AllByRecursion P xs
 each P all [] = tt

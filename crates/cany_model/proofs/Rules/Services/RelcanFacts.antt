@@ -23,7 +23,7 @@ use Rattle.cany_model.proofs.Bus.Carried.{is_got-true}
 use Rattle.cany_model.proofs.Bus.Identities.{same_class-true}
 use Rattle.cany_model.proofs.Rules.Waits.{Asks, AsksOnly}
 use Rattle.cany_model.proofs.Rules.IdleBeforeTakingPart.{AreIdle, idle_at}
-use Rattle.cany_model.proofs.Rules.DeliveryFacts.{DeliversAtOnce, EntersNone, delivers_once, delivery_enters, delivery_founded, entered-append, entered-none, entries_at}
+use Rattle.cany_model.proofs.Rules.Services.DeliveryFacts.{DeliversAtOnce, EntersNone, delivers_once, delivery_enters, delivery_founded, entered-append, entered-none, entries_at}
 use Rattle.cany_model.proofs.Rules.ProtocolFacts.{IsFounded, IsLawful, confirms, enough, is_diffused, is_relayed, relays}
 
 serves : relcan.delivers Rel ≡ true

@@ -8,7 +8,7 @@ use Rattle.cany_base.specs.Scenario.{ScenarioParts}
 use Rattle.cany_model.specs.Rules.Life.{is_due}
 use Rattle.cany_model.specs.Rules.KnowledgeOf.{ended_in, knowledge_of}
 use Rattle.cany_model.specs.Rules.Knowledge.{Knowledge, after_life, after_hearing, shows_life, with_shown}
-use Rattle.cany_model.proofs.Rules.KnowledgeSteps.{is_admitted, last_after}
+use Rattle.cany_model.proofs.Rules.Site.KnowledgeSteps.{is_admitted, last_after}
 
 -- ---- the slot of the node's own last life
 

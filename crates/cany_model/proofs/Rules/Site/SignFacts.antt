@@ -18,7 +18,7 @@ use Rattle.cany_model.proofs.Among.{Among, Among-append_cases, Among-append_left
 use Rattle.cany_model.proofs.Rules.Waits.{Asks}
 use Rattle.cany_model.proofs.Rules.LogFacts.{EntersSome, entered-to}
 use Rattle.cany_model.proofs.Rules.ProtocolFacts.{log_by}
-use Rattle.cany_model.proofs.Rules.KnowledgeFacts.{fda_one, known_after, newly, same_sign-from, same_sign-true, tells}
+use Rattle.cany_model.proofs.Rules.Site.KnowledgeFacts.{fda_one, known_after, newly, same_sign-from, same_sign-true, tells}
 
 -- ---- what a turn does of a sign
 

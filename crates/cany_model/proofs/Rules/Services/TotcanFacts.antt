@@ -26,9 +26,9 @@ use Rattle.cany_model.proofs.Among.{Among, Among-from_count, Among-get_or, Among
 use Rattle.cany_model.proofs.Bus.Carried.{Has}
 use Rattle.cany_model.proofs.Bus.Identities.{same_class-true, same_identity-from}
 use Rattle.cany_model.proofs.Rules.IdleBeforeTakingPart.{AreIdle, idle_at}
-use Rattle.cany_model.proofs.Rules.DeliveryFacts.{EntersNone, entered-append, entered-none}
-use Rattle.cany_model.proofs.Rules.EagerFacts.{eager_enters}
-use Rattle.cany_model.proofs.Rules.PlaceFacts.{recent-more, tot_in-brings, tot_in-holds}
+use Rattle.cany_model.proofs.Rules.Services.DeliveryFacts.{EntersNone, entered-append, entered-none}
+use Rattle.cany_model.proofs.Rules.Services.EagerFacts.{eager_enters}
+use Rattle.cany_model.proofs.Rules.Services.PlaceFacts.{recent-more, tot_in-brings, tot_in-holds}
 use Rattle.cany_model.proofs.Rules.ProtocolFacts.{IsFounded, IsLawful, accepts, closes, enough_accept, is_relayed, log_by, relays}
 
 serves : totcan.delivers Tot ≡ true

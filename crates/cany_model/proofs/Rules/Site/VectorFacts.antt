@@ -23,10 +23,10 @@ use Rattle.cany_model.specs.Rules.Views.{start_of, start_vector}
 use Rattle.cany_model.proofs.Among.{Each-append}
 use Rattle.cany_model.proofs.Bus.Identities.{same_class-true}
 use Rattle.cany_model.proofs.Rules.IdleBeforeTakingPart.{IsBegun, begun_before}
-use Rattle.cany_model.proofs.Rules.NoDelivery.{undelivering_is_lawful}
+use Rattle.cany_model.proofs.Rules.Services.NoDelivery.{undelivering_is_lawful}
 use Rattle.cany_model.proofs.Rules.ProtocolFacts.{IsExchanged, IsFounded, IsLawful, IsTaken, exchanges, settles}
-use Rattle.cany_model.proofs.Rules.KnowledgeFacts.{begun_knowledge, outside, outside_installs}
-use Rattle.cany_model.proofs.Rules.KnowledgeSteps.{vector_after}
+use Rattle.cany_model.proofs.Rules.Site.KnowledgeFacts.{begun_knowledge, outside, outside_installs}
+use Rattle.cany_model.proofs.Rules.Site.KnowledgeSteps.{vector_after}
 
 -- ---- a membership cycle
 

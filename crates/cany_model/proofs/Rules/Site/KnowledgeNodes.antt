@@ -19,8 +19,8 @@ use Rattle.cany_model.specs.Rules.Vectors.{brought, everybody, met}
 use Rattle.cany_base.specs.Cycles.{is_end, is_start}
 use Rattle.cany_model.specs.Rules.Views.{after_ask, start_of, start_vector, with_joiner, with_leaver}
 use Rattle.cany_model.proofs.Bus.Identities.{same_class-true}
-use Rattle.cany_model.proofs.Rules.SignRooms.{AreRead}
-use Rattle.cany_model.proofs.Rules.KnowledgeSteps.{found_keeps, joiners_after, joiners_by, life_keeps, members_after, members_by, start_keeps, vector_after}
+use Rattle.cany_model.proofs.Rules.Site.SignRooms.{AreRead}
+use Rattle.cany_model.proofs.Rules.Site.KnowledgeSteps.{found_keeps, joiners_after, joiners_by, life_keeps, members_after, members_by, start_keeps, vector_after}
 
 -- ---- sets
 

@@ -20,9 +20,9 @@ use Rattle.cany_model.specs.Rules.KnowledgeOf.{knowledge_of}
 use Rattle.cany_model.specs.Rules.Knowledge.{FailureSign, Knowledge, found, found_in, after_finding, after_hearing, after_learning, has_timed_out, knows, same_sign, sign_in, sign_of, told, told_in, with_signs}
 use Rattle.cany_model.specs.Rules.Turn.{turn_effects}
 use Rattle.cany_model.proofs.Among.{Among-from_count, Among-weaker, any-from_Among, count-cons, count-no, count-yes, one_at_most}
-use Rattle.cany_model.proofs.Rules.DeliveryFacts.{entered-append, entered-none}
-use Rattle.cany_model.proofs.Rules.MembershipEntries.{IsOfView, views_enter}
-use Rattle.cany_model.proofs.Rules.KnowledgeFacts.{knows_found, knows_heard, knows_with, same_sign-from, tells}
+use Rattle.cany_model.proofs.Rules.Services.DeliveryFacts.{entered-append, entered-none}
+use Rattle.cany_model.proofs.Rules.Site.MembershipEntries.{IsOfView, views_enter}
+use Rattle.cany_model.proofs.Rules.Site.KnowledgeFacts.{knows_found, knows_heard, knows_with, same_sign-from, tells}
 use Rattle.cany_model.proofs.Rules.TurnEntries.{copy_enters, sign_enters, turn_enters}
 
 -- the entry is that of the sign

@@ -21,10 +21,10 @@ use Rattle.cany_base.specs.Cycles.{cycle_of, is_end}
 use Rattle.cany_model.specs.Rules.Views.{ask_frame, ask_of, join_asked, leave_asked, view_effects, withdrawn_asks}
 use Rattle.cany_model.proofs.Among.{Among, Contains-from_Among, Each-append, Each-flat_map, Each-map, Each-weaker}
 use Rattle.cany_model.proofs.Rules.IdleBeforeTakingPart.{IsBegun, begun_before}
-use Rattle.cany_model.proofs.Rules.NoDelivery.{undelivering_is_lawful}
+use Rattle.cany_model.proofs.Rules.Services.NoDelivery.{undelivering_is_lawful}
 use Rattle.cany_model.proofs.Rules.ProtocolFacts.{IsAskOf, IsFounded, IsLawful, IsScripted, answered, requests}
-use Rattle.cany_model.proofs.Rules.KnowledgeFacts.{begun_knowledge}
-use Rattle.cany_model.proofs.Rules.KnowledgeSteps.{members_after, members_by}
+use Rattle.cany_model.proofs.Rules.Site.KnowledgeFacts.{begun_knowledge}
+use Rattle.cany_model.proofs.Rules.Site.KnowledgeSteps.{members_after, members_by}
 
 -- ---- lists
 

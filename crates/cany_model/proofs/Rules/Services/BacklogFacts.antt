@@ -19,10 +19,10 @@ use Rattle.cany_model.specs.Rules.Sends.{sendable}
 use Rattle.cany_model.specs.Rules.Totcan.{is_recent}
 use Rattle.cany_model.proofs.Among.{Each-append, Each-drop, Each-weaker}
 use Rattle.cany_model.proofs.Rules.IdleBeforeTakingPart.{IsBegun}
-use Rattle.cany_model.proofs.Rules.MessageKeys.{IsOneOf, is_service-true}
-use Rattle.cany_model.proofs.Rules.NoDelivery.{undelivering_is_lawful}
+use Rattle.cany_model.proofs.Rules.Services.MessageKeys.{IsOneOf, is_service-true}
+use Rattle.cany_model.proofs.Rules.Services.NoDelivery.{undelivering_is_lawful}
 use Rattle.cany_model.proofs.Rules.ProtocolFacts.{IsFounded, IsLawful, originates}
-use Rattle.cany_model.proofs.Rules.SendFacts.{sendable_one}
+use Rattle.cany_model.proofs.Rules.Services.SendFacts.{sendable_one}
 
 -- ---- what has joined it
 
