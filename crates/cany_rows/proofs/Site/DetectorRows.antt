@@ -27,9 +27,9 @@ use Rattle.cany_model.specs.Rules.Log.{log}
 use Rattle.cany_model.specs.Rules.KnowledgeOf.{knowledge_of}
 use Rattle.cany_model.specs.Rules.Turn.{scenario_at}
 use Rattle.cany_model.proofs.Promises.BreakFacts.{first_break_exact}
-use Rattle.cany_rows.proofs.DetectorWords.{OfView, detector_row, each_correct, of_views, run_of, stands_after, two, two_is_legal}
+use Rattle.cany_rows.proofs.Site.DetectorWords.{OfView, detector_row, each_correct, of_views, run_of, stands_after, two, two_is_legal}
 use Rattle.cany_rows.proofs.RowWords.{scenario, set, slot_rule, three}
-use Rattle.cany_rows.proofs.SiteWords.{asks_at, of_members}
+use Rattle.cany_rows.proofs.Site.SiteWords.{asks_at, of_members}
 
 -- ---- a member that stops
 

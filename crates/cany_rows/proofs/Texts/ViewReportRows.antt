@@ -3,9 +3,9 @@ use Rattle.std.specs.Prelude.{ℕ, ◌≡◌, ◌++◌, List, [], ◌∷◌, cod
 use Rattle.std.specs.List.{concat}
 use Rattle.cany_base.specs.declared.rule.Verdict.TheVariants.{Partial}
 use Rattle.cany_base.specs.Scenario.{ScenarioParts}
-use Rattle.cany_rows.proofs.ReportRows.{text_of}
+use Rattle.cany_rows.proofs.Texts.ReportRows.{text_of}
 use Rattle.cany_rows.proofs.RowWords.{scenario, set, slot_rule, three}
-use Rattle.cany_rows.proofs.SiteWords.{asks_at, of_members, rounds_of, site_row, with_asks}
+use Rattle.cany_rows.proofs.Site.SiteWords.{asks_at, of_members, rounds_of, site_row, with_asks}
 
 -- so many rounds of three nodes, as a line of the journal
 unfoldable journal_of : ℕ → List ℕ

@@ -13,7 +13,7 @@ use Rattle.cany_text.specs.SendsText.{payload_from, service_from, send_from, sen
 use Rattle.cany_text.specs.TextNames.{key_name, service_name}
 use Rattle.cany_text.specs.TomlKeys.{Read}
 use Rattle.cany_rows.proofs.RowWords.{three, send}
-use Rattle.cany_rows.proofs.TextWords.{number, text, values, at_node, send_of}
+use Rattle.cany_rows.proofs.Texts.TextWords.{number, text, values, at_node, send_of}
 
 -- the sends that values stand for in a run of five slots on three nodes
 unfoldable sends_in : List Data → Read (List SendAsk)

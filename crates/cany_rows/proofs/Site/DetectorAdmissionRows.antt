@@ -16,9 +16,9 @@ use Rattle.cany_model.specs.Promises.OneView.{installed}
 use Rattle.cany_model.specs.Promises.Settled.{IsCorrect}
 use Rattle.cany_model.specs.Rules.Log.{log}
 use Rattle.cany_model.proofs.Promises.BreakFacts.{first_break_exact}
-use Rattle.cany_rows.proofs.DetectorWords.{detector_row, each_correct, of_installed, run_of, stands_after, two, two_is_legal}
+use Rattle.cany_rows.proofs.Site.DetectorWords.{detector_row, each_correct, of_installed, run_of, stands_after, two, two_is_legal}
 use Rattle.cany_rows.proofs.RowWords.{carries, scenario, set, slot_rule, three}
-use Rattle.cany_rows.proofs.SiteWords.{asks_at, join, of_members, with_asks}
+use Rattle.cany_rows.proofs.Site.SiteWords.{asks_at, join, of_members, with_asks}
 
 -- neither node has node 1 in its view before its turn of this slot
 abbrev AreWithoutNode1 : ScenarioParts → RunState → ℕ → Type 0

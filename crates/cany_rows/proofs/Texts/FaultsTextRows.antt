@@ -18,7 +18,7 @@ use Rattle.cany_text.specs.ScenarioText.{top_table}
 use Rattle.cany_text.specs.TextNames.{class_name, key_name, verdict_name}
 use Rattle.cany_text.specs.TomlKeys.{Read}
 use Rattle.cany_rows.proofs.RowWords.{three, slot_rule, frame_rule, set}
-use Rattle.cany_rows.proofs.TextWords.{number, text, numbers, values, attempt}
+use Rattle.cany_rows.proofs.Texts.TextWords.{number, text, numbers, values, attempt}
 
 -- the rules that values stand for, in a run of these parameters; what computes them is opened here,
 -- once for all rows

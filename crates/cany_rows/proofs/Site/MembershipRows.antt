@@ -5,7 +5,7 @@ use Rattle.cany_base.specs.declared.log_entry.LogEntry.TheVariants.{Failed, View
 use Rattle.cany_base.specs.declared.rule.Verdict.TheVariants.{Clean, Partial}
 use Rattle.cany_base.specs.Scenario.{ScenarioParts}
 use Rattle.cany_rows.proofs.RowWords.{RunReport, carries, idle, scenario, set, slot_rule, steps, three, running_node, stopped_node, whole_run, report_of}
-use Rattle.cany_rows.proofs.SiteWords.{asks_at, els, fda, join, leave, of_members, rha, rounds_of, site_row, with_asks}
+use Rattle.cany_rows.proofs.Site.SiteWords.{asks_at, els, fda, join, leave, of_members, rha, rounds_of, site_row, with_asks}
 
 -- a report with so many of its lines of the bus
 unfoldable of_lines : ℕ → RunReport → RunReport

@@ -14,7 +14,7 @@ use Rattle.cany_model.specs.Rules.KnowledgeOf.{knowledge_of}
 use Rattle.cany_model.specs.Rules.Vectors.{rha_frame, vector_in}
 use Rattle.cany_base.specs.Cycles.{cycle_of, is_end, is_exchange, is_start}
 use Rattle.cany_rows.proofs.RowWords.{report, scenario, set}
-use Rattle.cany_rows.proofs.SiteWords.{classes, els, idle_slots, of_members, plain, read, rha, short_cycles, site_row}
+use Rattle.cany_rows.proofs.Site.SiteWords.{classes, els, idle_slots, of_members, plain, read, rha, short_cycles, site_row}
 
 -- ---- what a row is written with
 

@@ -21,7 +21,7 @@ use Rattle.cany_model.specs.Promises.Settled.{IsCorrect}
 use Rattle.cany_model.proofs.Among.{Among-from_Contains, Each-of}
 use Rattle.cany_rows.proofs.RowWords.{set}
 unfoldable pub use Rattle.cany_rows.proofs.RowWords.{run_of}
-use Rattle.cany_rows.proofs.SiteWords.{site_row}
+use Rattle.cany_rows.proofs.Site.SiteWords.{site_row}
 
 -- ---- runs of two nodes
 

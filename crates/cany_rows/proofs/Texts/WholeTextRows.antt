@@ -14,7 +14,7 @@ use Rattle.cany_text.specs.declared.scenario_fault.TableName.TheVariants as in_t
 use Rattle.cany_text.specs.ScenarioText.{document_of, scenario_of}
 use Rattle.cany_text.specs.TomlKeys.{Read}
 use Rattle.cany_rows.proofs.RowWords.{frame_rule, send, set, slot_rule, three}
-use Rattle.cany_rows.proofs.TextWords.{fault_of, text_row}
+use Rattle.cany_rows.proofs.Texts.TextWords.{fault_of, text_row}
 
 -- the scenario of the lines of a text; what computes it is opened here, once for all rows
 unfoldable scenario_of_lines : List (List ℕ) → Read ScenarioParts

@@ -17,7 +17,7 @@ use Rattle.cany_model.specs.Bus.Restart.{first_cycle, next_incarnation, restarte
 use Rattle.cany_model.specs.Bus.State.{RunState, original}
 use Rattle.cany_rows.proofs.RestartRows.{incarnation, lives, restart_row, span, with_restarts}
 use Rattle.cany_rows.proofs.RowWords.{carries, ed, idle, report, scenario, set, slot_rule, steps, three, run_of, walk_of, shown}
-use Rattle.cany_rows.proofs.SiteWords.{asks_at, els, fda, join, leave, of_members, rha, rounds_of, short_cycles, site_row, with_asks}
+use Rattle.cany_rows.proofs.Site.SiteWords.{asks_at, els, fda, join, leave, of_members, rha, rounds_of, short_cycles, site_row, with_asks}
 
 -- ---- what a row is written with
 

@@ -12,7 +12,7 @@ use Rattle.cany_text.specs.declared.scenario_fault.TableName.TheVariants as in_t
 use Rattle.cany_text.specs.ScenarioText.{document_of, scenario_of}
 use Rattle.cany_text.specs.TomlKeys.{Read}
 use Rattle.cany_rows.proofs.RowWords.{three, set}
-use Rattle.cany_rows.proofs.TextWords.{number, numbers, texts, tables, run_in, five_slots, at_node, read, of_ok, text_row}
+use Rattle.cany_rows.proofs.Texts.TextWords.{number, numbers, texts, tables, run_in, five_slots, at_node, read, of_ok, text_row}
 
 -- the members of five slots on three nodes, of which the text names these
 abbrev members : List ℕ → Read Nodes

@@ -3,9 +3,9 @@ use Rattle.std.specs.Prelude.{◌≡◌, [], ◌∷◌, codes, refl}
 use Rattle.std.specs.List.{concat}
 use Rattle.cany_base.specs.declared.rule.Verdict.TheVariants.{Clean}
 use Rattle.cany_base.specs.Scenario.{ScenarioParts}
-use Rattle.cany_rows.proofs.ReportRows.{text_of}
+use Rattle.cany_rows.proofs.Texts.ReportRows.{text_of}
 use Rattle.cany_rows.proofs.RowWords.{scenario, send, set, slot_rule, three}
-use Rattle.cany_rows.proofs.SiteWords.{asks_at, site_row}
+use Rattle.cany_rows.proofs.Site.SiteWords.{asks_at, site_row}
 
 -- node 0 stops in slot 5, and starts again at the end of slot 10; all nodes are members
 unfoldable stopped_and_back : ScenarioParts

@@ -10,7 +10,7 @@ use Rattle.cany_text.specs.ScenarioText.{top_table}
 use Rattle.cany_text.specs.TextNames.{key_name}
 use Rattle.cany_text.specs.TomlKeys.{Read}
 use Rattle.cany_rows.proofs.RowWords.{three}
-use Rattle.cany_rows.proofs.TextWords.{number, text, values, at_node, of_ok}
+use Rattle.cany_rows.proofs.Texts.TextWords.{number, text, values, at_node, of_ok}
 
 -- an entry for an ask of a node in a slot
 abbrev ask : ℕ → ℕ → Members

@@ -15,7 +15,7 @@ use Rattle.cany_model.specs.Rules.Knowledge.{Knowledge, knowledge_at_first}
 use Rattle.cany_model.specs.Rules.Turn.{turn_effects}
 use Rattle.cany_model.specs.Rules.Views.{after_ask, start_of, with_ended}
 use Rattle.cany_rows.proofs.RowWords.{ed, report, scenario, send, send_tot, set, tot}
-use Rattle.cany_rows.proofs.SiteWords.{asks_at, classes, els, fda, idle_slots, join, leave, of_members, plain, read, rha, short_cycles, site_row, with_asks}
+use Rattle.cany_rows.proofs.Site.SiteWords.{asks_at, classes, els, fda, idle_slots, join, leave, of_members, plain, read, rha, short_cycles, site_row, with_asks}
 
 -- ---- what a row is written with
 

@@ -6,7 +6,7 @@ use Rattle.cany_base.specs.declared.params.ParamName.TheVariants.{Bound, Cycle}
 use Rattle.cany_text.specs.declared.scenario_fault.KeyName.TheVariants as key
 use Rattle.cany_text.specs.declared.scenario_fault.ScenarioFault.TheVariants.{UnknownKey, MissingKey, WrongKind, OutOfRange, TooMany, BadData, BoundTooSmall, RepeatedRule, TooOften, BadJournal}
 use Rattle.cany_text.specs.declared.scenario_fault.TableName.TheVariants as in_table
-use Rattle.cany_rows.proofs.TextWords.{number, text, values, numbers, texts, tables, run_in, five_slots, at_node, send_of, fault_in, text_row}
+use Rattle.cany_rows.proofs.Texts.TextWords.{number, text, values, numbers, texts, tables, run_in, five_slots, at_node, send_of, fault_in, text_row}
 
 -- a number where an array is listed
 abbrev no_array : List ℕ → Members → Members

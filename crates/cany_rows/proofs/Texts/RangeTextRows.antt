@@ -10,7 +10,7 @@ use Rattle.cany_text.specs.declared.scenario_fault.ScenarioFault.{ScenarioFault}
 use Rattle.cany_text.specs.declared.scenario_fault.ScenarioFault.TheVariants.{WrongKind, OutOfRange, BoundTooSmall}
 use Rattle.cany_text.specs.declared.scenario_fault.TableName.TheVariants as in_table
 use Rattle.cany_text.specs.TextNames.{key_name}
-use Rattle.cany_rows.proofs.TextWords.{number, run_in, five_slots, fault_in, text_row}
+use Rattle.cany_rows.proofs.Texts.TextWords.{number, run_in, five_slots, fault_in, text_row}
 
 -- the fault that a number at a key is outside its range
 abbrev outside : KeyName → ℕ → Option ScenarioFault

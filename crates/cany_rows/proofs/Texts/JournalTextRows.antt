@@ -13,7 +13,7 @@ use Rattle.cany_text.specs.JournalText.{step_of, steps_from, journal_from, journ
 use Rattle.cany_text.specs.ScenarioText.{top_table}
 use Rattle.cany_text.specs.TextNames.{key_name}
 use Rattle.cany_text.specs.TomlKeys.{Read}
-use Rattle.cany_rows.proofs.TextWords.{items, values}
+use Rattle.cany_rows.proofs.Texts.TextWords.{items, values}
 
 abbrev here : Position
 here = record { table = in_table.Top; place = 0; name = key.Journal }
