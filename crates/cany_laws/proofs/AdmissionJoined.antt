@@ -21,7 +21,7 @@ use Rattle.cany_model.specs.Runs.Run.{run}
 use Rattle.cany_model.proofs.Among.{Among-from_Contains}
 use Rattle.cany_model.proofs.Promises.KeptVectors.{vector_at}
 use Rattle.cany_model.proofs.Promises.OwnSlotsAlone.{members_later, run_numbered}
-use Rattle.cany_model.proofs.Rules.KnowledgeSteps.{members_by}
+use Rattle.cany_model.proofs.Rules.Site.KnowledgeSteps.{members_by}
 use Rattle.cany_model.proofs.Runs.Runs.{orderly}
 use Rattle.cany_model.proofs.Timed.Detector.VectorsAgreeOn.{Says, none_says}
 use Rattle.cany_model.proofs.Timed.Views.SameView.{end_place}

@@ -32,10 +32,10 @@ use Rattle.cany_model.proofs.Bus.Restarts.{after_restarts-trace}
 use Rattle.cany_model.proofs.Bus.Seen.{history-is, seen_idle, seen_plain}
 use Rattle.cany_model.proofs.Promises.KeptVectors.{vector_at}
 use Rattle.cany_model.proofs.Promises.OwnSlotsAlone.{run_numbered}
-use Rattle.cany_model.proofs.Rules.CycleFacts.{cycle_before}
-use Rattle.cany_model.proofs.Rules.KnowledgeNodes.{IsVectorOfBus, first_members, knowledge_of_bus}
+use Rattle.cany_model.proofs.Rules.Site.CycleFacts.{cycle_before}
+use Rattle.cany_model.proofs.Rules.Site.KnowledgeNodes.{IsVectorOfBus, first_members, knowledge_of_bus}
 use Rattle.cany_model.proofs.Rules.ProtocolFacts.{MayAsk, accepts, confirms, data_is_no_other, exchanges, is_relayed, lives, originates, relays, request_class, requests, signals}
-use Rattle.cany_model.proofs.Rules.VectorFacts.{carries_vector}
+use Rattle.cany_model.proofs.Rules.Site.VectorFacts.{carries_vector}
 use Rattle.cany_model.proofs.Runs.Journals.{run_none}
 use Rattle.cany_model.proofs.Runs.Runs.{history-length, orderly}
 use Rattle.cany_model.proofs.Runs.Steps.{after_slot-trace, after_turn-trace}

@@ -17,7 +17,7 @@ use Rattle.cany_model.specs.Rules.KnowledgeOf.{knowledge_of}
 use Rattle.cany_model.specs.Runs.Run.{run}
 use Rattle.cany_model.proofs.Bus.Seen.{drop_seen}
 use Rattle.cany_model.proofs.Rules.IncarnationFacts.{scenario_for-original}
-use Rattle.cany_model.proofs.Rules.KnowledgeSteps.{members_by}
+use Rattle.cany_model.proofs.Rules.Site.KnowledgeSteps.{members_by}
 use Rattle.cany_model.proofs.Timed.Common.KnowledgeAges.{ComesIn, IsLifeOf, IsOwnLife, last_why, shown_comes, shown_either, shown_got}
 use Rattle.cany_model.proofs.Timed.Views.SameView.{end_place}
 use Rattle.cany_laws.specs.Logs.{IsIncarnation, followed_by}

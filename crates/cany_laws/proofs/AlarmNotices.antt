@@ -22,7 +22,7 @@ use Rattle.cany_model.specs.Runs.Run.{run}
 use Rattle.cany_model.proofs.Bus.Identities.{same_class-true}
 use Rattle.cany_model.proofs.Bus.Notes.{given-Sent}
 use Rattle.cany_model.proofs.Bus.Seen.{hidden_not, seen_plain}
-use Rattle.cany_model.proofs.Rules.NoEarlyVectors.{carries_frame}
+use Rattle.cany_model.proofs.Rules.Site.NoEarlyVectors.{carries_frame}
 use Rattle.cany_model.proofs.Bus.States.{no_note, note_at}
 use Rattle.cany_model.proofs.Promises.Diffusion.{Heard}
 use Rattle.cany_model.proofs.Promises.EachNode.{each_running}

@@ -34,7 +34,7 @@ use Rattle.cany_model.proofs.Bus.States.{no_note, runs_within}
 use Rattle.cany_model.proofs.Promises.Diffusion.{past_of}
 use Rattle.cany_model.proofs.Promises.DiffusionRun.{run_diffuses}
 use Rattle.cany_model.proofs.Promises.SignAgrees.{sign_duty, sign_is_diffused}
-use Rattle.cany_model.proofs.Rules.KnowledgeFacts.{HasTimedOut, timed_out}
+use Rattle.cany_model.proofs.Rules.Site.KnowledgeFacts.{HasTimedOut, timed_out}
 use Rattle.cany_model.proofs.Runs.Runs.{orderly}
 use Rattle.cany_model.proofs.Rules.Waits.{waits-from_with}
 use Rattle.cany_model.proofs.Runs.SlotStates.{slot_has_state, slot_state-trace, slot_state_is}

@@ -25,8 +25,8 @@ use Rattle.cany_model.proofs.Among.{Among, Among-from_any, Among-weaker, Among-w
 use Rattle.cany_model.proofs.Bus.Identities.{same_identity-from}
 use Rattle.cany_model.proofs.Bus.Restarts.{after_restarts-trace, restarts_or_stays}
 use Rattle.cany_model.proofs.Bus.States.{no_note, note_at}
-use Rattle.cany_model.proofs.Rules.MessageKeys.{IsOneOf, same_message}
-use Rattle.cany_model.proofs.Rules.SendFacts.{is_sent_in-true, sendable_one}
+use Rattle.cany_model.proofs.Rules.Services.MessageKeys.{IsOneOf, same_message}
+use Rattle.cany_model.proofs.Rules.Services.SendFacts.{is_sent_in-true, sendable_one}
 use Rattle.cany_model.proofs.Runs.Runs.{IsOrderly, history-length}
 use Rattle.cany_model.proofs.Runs.Steps.{MayTurn, after_slot-trace, after_slot-unread, after_turn-node, after_turn-other, after_turn-trace, next_notice}
 use Rattle.cany_model.proofs.Rules.Waits.{Asks}

@@ -24,7 +24,7 @@ use Rattle.cany_model.proofs.Bus.States.{no_note, note_at}
 use Rattle.cany_model.proofs.Promises.DiffusionRun.{NodeDiffuses, run_diffuses}
 use Rattle.cany_model.proofs.Promises.EachNode.{EachRunning}
 use Rattle.cany_model.proofs.Promises.SignAgrees.{sign_duty, sign_is_diffused}
-use Rattle.cany_model.proofs.Rules.KnowledgeFacts.{got_is_known}
+use Rattle.cany_model.proofs.Rules.Site.KnowledgeFacts.{got_is_known}
 use Rattle.cany_model.proofs.Rules.TurnFacts.{fda_cause}
 use Rattle.cany_model.proofs.Runs.Steps.{after_turn-node, next_notice}
 use Rattle.cany_model.proofs.Rules.Waits.{waits-from_after}

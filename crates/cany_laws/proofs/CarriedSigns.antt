@@ -14,8 +14,8 @@ use Rattle.cany_model.specs.Rules.KnowledgeOf.{knowledge_of}
 use Rattle.cany_model.specs.Rules.Life.{failure_effects, failures_at, fda_copy_effects, failure_sign_effects}
 use Rattle.cany_model.proofs.Among.{Among, Among-append_cases, Among-from_flat_map}
 use Rattle.cany_model.proofs.Rules.Waits.{Asks}
-use Rattle.cany_model.proofs.Rules.KnowledgeFacts.{knows_heard, knows_with}
-use Rattle.cany_model.proofs.Rules.SignFacts.{asks_of_sign, copy_asks}
+use Rattle.cany_model.proofs.Rules.Site.KnowledgeFacts.{knows_heard, knows_with}
+use Rattle.cany_model.proofs.Rules.Site.SignFacts.{asks_of_sign, copy_asks}
 
 -- ---- a node asks for the frame in the turn in which the sign becomes known
 

@@ -30,16 +30,16 @@ use Rattle.cany_model.specs.Rules.Turn.{asks_for, has_asked, origin_effects, pro
 use Rattle.cany_model.proofs.Among.{Among, Among-from_any, Among-place, Among-weaker, Each-append, Each-flat_map}
 use Rattle.cany_model.proofs.Bus.Carried.{Has}
 use Rattle.cany_model.proofs.Bus.Identities.{same_class-true, same_identity-true}
-use Rattle.cany_model.proofs.Rules.AskedFacts.{asked_of_backlog}
-use Rattle.cany_model.proofs.Rules.BacklogFacts.{HasJoined, asked-few, backlog_joined, next_is, next_joined}
+use Rattle.cany_model.proofs.Rules.Services.AskedFacts.{asked_of_backlog}
+use Rattle.cany_model.proofs.Rules.Services.BacklogFacts.{HasJoined, asked-few, backlog_joined, next_is, next_joined}
 use Rattle.cany_model.proofs.Rules.IdleBeforeTakingPart.{AreIdle, IsBegun, begun_copy}
-use Rattle.cany_model.proofs.Rules.LifeFacts.{failures_are_lawful, life_is_lawful}
-use Rattle.cany_model.proofs.Rules.MessageKeys.{IsOneOf, is_service-true, same_message}
-use Rattle.cany_model.proofs.Rules.MessageClasses.{data_of_message, is_of_message, others_of, request_other, same_other}
+use Rattle.cany_model.proofs.Rules.Site.LifeFacts.{failures_are_lawful, life_is_lawful}
+use Rattle.cany_model.proofs.Rules.Services.MessageKeys.{IsOneOf, is_service-true, same_message}
+use Rattle.cany_model.proofs.Rules.Services.MessageClasses.{data_of_message, is_of_message, others_of, request_other, same_other}
 use Rattle.cany_model.proofs.Rules.ProtocolFacts.{is_data}
-use Rattle.cany_model.proofs.Rules.SendFacts.{is_sent_in-true, sendable_one}
-use Rattle.cany_model.proofs.Rules.VectorFacts.{vectors_are_lawful}
-use Rattle.cany_model.proofs.Rules.ViewFacts.{asks_are_lawful, views_are_lawful}
+use Rattle.cany_model.proofs.Rules.Services.SendFacts.{is_sent_in-true, sendable_one}
+use Rattle.cany_model.proofs.Rules.Site.VectorFacts.{vectors_are_lawful}
+use Rattle.cany_model.proofs.Rules.Site.ViewFacts.{asks_are_lawful, views_are_lawful}
 use Rattle.cany_model.proofs.Rules.Waits.{AsksOnly}
 use Rattle.cany_model.proofs.Timed.Order.TotBacklog.{any_dropped, at_place, backlog_same, one_place, tot_id}
 use Rattle.cany_model.proofs.Timed.Order.TotKept.{no_message}

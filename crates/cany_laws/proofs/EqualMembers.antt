@@ -15,7 +15,7 @@ use Rattle.cany_model.specs.Promises.OneView.{installed_of}
 use Rattle.cany_model.specs.Rules.KnowledgeOf.{knowledge_of}
 use Rattle.cany_model.specs.Runs.Run.{run}
 use Rattle.cany_model.proofs.Rules.IncarnationFacts.{scenario_for-original}
-use Rattle.cany_model.proofs.Rules.KnowledgeSteps.{members_by}
+use Rattle.cany_model.proofs.Rules.Site.KnowledgeSteps.{members_by}
 use Rattle.cany_model.proofs.Timed.Common.KnowledgeAges.{ended_at, members_next}
 use Rattle.cany_model.proofs.Timed.Views.OneVector.{installed_here}
 use Rattle.cany_model.proofs.Timed.Views.SameView.{end_place}

@@ -31,7 +31,7 @@ use Rattle.cany_model.proofs.Promises.EachNode.{restarted_new}
 use Rattle.cany_model.proofs.Promises.OwnSlotsAlone.{run_numbered}
 use Rattle.cany_model.proofs.Rules.IdleBeforeTakingPart.{IsBegun, begun_before}
 use Rattle.cany_model.proofs.Rules.LogFacts.{log_split, made_by}
-use Rattle.cany_model.proofs.Rules.MessageKeys.{IsOneOf, same_message}
+use Rattle.cany_model.proofs.Rules.Services.MessageKeys.{IsOneOf, same_message}
 use Rattle.cany_model.proofs.Rules.MutedFacts.{turn_muted}
 use Rattle.cany_model.proofs.Rules.ProtocolFacts.{IsFoundedEntry}
 use Rattle.cany_model.proofs.Runs.Runs.{history-length, orderly, orderly_slot}

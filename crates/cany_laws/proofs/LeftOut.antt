@@ -15,8 +15,8 @@ use Rattle.cany_model.specs.Rules.KnowledgeOf.{after_installing, knowledge_of, m
 use Rattle.cany_model.specs.Rules.Vectors.{after_exchange, brought, met, met_with}
 use Rattle.cany_model.specs.Rules.Views.{start_of, start_vector}
 use Rattle.cany_model.specs.Runs.Run.{run}
-use Rattle.cany_model.proofs.Rules.CycleFacts.{in_exchange, in_start}
-use Rattle.cany_model.proofs.Rules.KnowledgeSteps.{failed_after, failed_by, members_by, vector_after}
+use Rattle.cany_model.proofs.Rules.Site.CycleFacts.{in_exchange, in_start}
+use Rattle.cany_model.proofs.Rules.Site.KnowledgeSteps.{failed_after, failed_by, members_by, vector_after}
 use Rattle.cany_model.proofs.Timed.Common.KnowledgeAges.{ended_at, members_next}
 use Rattle.cany_model.proofs.Timed.Detector.Removal.{asked_none, member_no_joiner}
 use Rattle.cany_model.proofs.Timed.Detector.SilentNode.{asked_members, lacks_says, no_installed}

@@ -31,16 +31,16 @@ use Rattle.cany_model.specs.Rules.Totcan.{accept_effects, accept_frame, after_pl
 use Rattle.cany_model.specs.Rules.Turn.{protocols, turn_effects}
 use Rattle.cany_model.proofs.Among.{Among, Among-append_left, Among-append_right, Among-from_any, Among-weaker, Each-append, Each-flat_map, Each-weaker, count-from_Among}
 use Rattle.cany_model.proofs.Bus.Identities.{same_class-true, same_identity-true}
-use Rattle.cany_model.proofs.Rules.BacklogFacts.{backlog_is_lawful}
-use Rattle.cany_model.proofs.Rules.DoneFacts.{IsNamed, done-with, done_exactly, through_is_clear}
-use Rattle.cany_model.proofs.Rules.LifeFacts.{failures_are_lawful, life_is_lawful}
-use Rattle.cany_model.proofs.Rules.MessageKeys.{is_service-from}
-use Rattle.cany_model.proofs.Rules.PlaceFacts.{Place, place-old}
+use Rattle.cany_model.proofs.Rules.Services.BacklogFacts.{backlog_is_lawful}
+use Rattle.cany_model.proofs.Rules.Services.DoneFacts.{IsNamed, done-with, done_exactly, through_is_clear}
+use Rattle.cany_model.proofs.Rules.Site.LifeFacts.{failures_are_lawful, life_is_lawful}
+use Rattle.cany_model.proofs.Rules.Services.MessageKeys.{is_service-from}
+use Rattle.cany_model.proofs.Rules.Services.PlaceFacts.{Place, place-old}
 use Rattle.cany_model.proofs.Rules.ProtocolFacts.{IsFounded, IsLawful}
-use Rattle.cany_model.proofs.Rules.SendFacts.{sends_are_lawful}
-use Rattle.cany_model.proofs.Rules.TotcanFacts.{all_tot, delivered_brought, done_brought, not_new}
-use Rattle.cany_model.proofs.Rules.VectorFacts.{vectors_are_lawful}
-use Rattle.cany_model.proofs.Rules.ViewFacts.{asks_are_lawful, views_are_lawful}
+use Rattle.cany_model.proofs.Rules.Services.SendFacts.{sends_are_lawful}
+use Rattle.cany_model.proofs.Rules.Services.TotcanFacts.{all_tot, delivered_brought, done_brought, not_new}
+use Rattle.cany_model.proofs.Rules.Site.VectorFacts.{vectors_are_lawful}
+use Rattle.cany_model.proofs.Rules.Site.ViewFacts.{asks_are_lawful, views_are_lawful}
 use Rattle.cany_laws.proofs.DoneTurns.{Free, FreeNotice, IsDone, no_got, no_holds, no_sent}
 use Rattle.cany_model.proofs.Timed.Order.OneOrder.{clear_old}
 use Rattle.cany_model.proofs.Timed.Order.TotBacklog.{tot_id}

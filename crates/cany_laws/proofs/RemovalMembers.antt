@@ -18,8 +18,8 @@ use Rattle.cany_model.specs.Rules.Vectors.{met, met_with}
 use Rattle.cany_model.specs.Rules.Views.{start_of, start_vector}
 use Rattle.cany_model.specs.Runs.Run.{run}
 use Rattle.cany_model.proofs.Promises.KeptVectors.{vector_at}
-use Rattle.cany_model.proofs.Rules.CycleFacts.{in_start}
-use Rattle.cany_model.proofs.Rules.KnowledgeSteps.{members_by}
+use Rattle.cany_model.proofs.Rules.Site.CycleFacts.{in_start}
+use Rattle.cany_model.proofs.Rules.Site.KnowledgeSteps.{members_by}
 use Rattle.cany_model.proofs.Timed.Detector.SilentNode.{asked_members, no_installed, start_says}
 use Rattle.cany_model.proofs.Timed.Detector.VectorsAgreeOn.{Says}
 use Rattle.cany_model.proofs.Timed.Views.SameView.{end_place}

@@ -16,7 +16,7 @@ use Rattle.cany_model.specs.Promises.Hypothesis.{IsWithin}
 use Rattle.cany_model.specs.Rules.KnowledgeOf.{after_asking, knowledge_of}
 use Rattle.cany_model.specs.Runs.Run.{run}
 use Rattle.cany_model.proofs.Promises.KeptVectors.{vector_at}
-use Rattle.cany_model.proofs.Rules.KnowledgeSteps.{members_by}
+use Rattle.cany_model.proofs.Rules.Site.KnowledgeSteps.{members_by}
 use Rattle.cany_model.proofs.Runs.PresentIncarnations.{each_present}
 use Rattle.cany_model.proofs.Timed.Detector.Removal.{member_no_joiner}
 use Rattle.cany_model.proofs.Timed.Detector.SilentNode.{lacks_says}

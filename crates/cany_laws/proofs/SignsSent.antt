@@ -17,8 +17,8 @@ use Rattle.cany_model.specs.Runs.Run.{after_turn, run}
 use Rattle.cany_model.proofs.Among.{Among, one_at_most, one_if}
 use Rattle.cany_model.proofs.Bus.Restarts.{after_restarts-trace, restarts_or_stays}
 use Rattle.cany_model.proofs.Bus.Seen.{history-is}
-use Rattle.cany_model.proofs.Rules.KnowledgeFacts.{known_stays}
-use Rattle.cany_model.proofs.Rules.SignFacts.{asked_is_known}
+use Rattle.cany_model.proofs.Rules.Site.KnowledgeFacts.{known_stays}
+use Rattle.cany_model.proofs.Rules.Site.SignFacts.{asked_is_known}
 use Rattle.cany_model.proofs.Rules.TurnFacts.{fda_cause}
 use Rattle.cany_model.proofs.Runs.Runs.{IsOrderly}
 use Rattle.cany_model.proofs.Runs.Steps.{MayTurn, after_slot-history, after_slot-present, after_turn-history, after_turn-other, after_turn-other_history, after_turn-present, next_notice}

@@ -9,8 +9,8 @@ use Rattle.cany_base.specs.Scenario.{ScenarioParts}
 use Rattle.cany_model.specs.Rules.Knowledge.{FailureSign, Knowledge, after_finding, after_hearing, after_learning, found_in, hears_life, knows, same_sign, shows_life, sign_in, told_in}
 use Rattle.cany_model.specs.Rules.KnowledgeOf.{knowledge_of}
 use Rattle.cany_model.proofs.Among.{Among, Among-append_cases, Among-from_any, Among-weaker}
-use Rattle.cany_model.proofs.Rules.KnowledgeFacts.{known_after, newly, same_sign-true, tells}
-use Rattle.cany_model.proofs.Rules.KnowledgeSteps.{failed_after, is_admitted, shown_after}
+use Rattle.cany_model.proofs.Rules.Site.KnowledgeFacts.{known_after, newly, same_sign-true, tells}
+use Rattle.cany_model.proofs.Rules.Site.KnowledgeSteps.{failed_after, is_admitted, shown_after}
 use Rattle.cany_model.proofs.Timed.Common.KnowledgeAges.{ended_at}
 use Rattle.cany_model.proofs.Timed.Detector.SilentNode.{NoLifeOf, failed_by_still, learnt_no_life, learnt_still, no_life, not_admitted, silent_found, with_signs_named}
 

@@ -36,7 +36,7 @@ use Rattle.cany_model.proofs.Promises.Diffusion.{past_of}
 use Rattle.cany_model.proofs.Promises.EachNode.{restarted_new}
 use Rattle.cany_model.proofs.Promises.SettledFacts.{parts, settled_asked_or_late, settled_none_ahead, settled_read, none_awaited}
 use Rattle.cany_model.proofs.Promises.Sources.{IsSourced, sourced}
-use Rattle.cany_model.proofs.Rules.MessageKeys.{IsOneOf}
+use Rattle.cany_model.proofs.Rules.Services.MessageKeys.{IsOneOf}
 use Rattle.cany_model.proofs.Rules.Protocols.{relcan_is_one, totcan_is_one}
 use Rattle.cany_model.proofs.Runs.Runs.{IsOrderly, history-length, orderly, orderly_slot}
 use Rattle.cany_model.proofs.Runs.Steps.{MayTurn, after_slot-history, after_slot-present, after_slot-trace, after_slot-unread, after_slot-waiting, after_turn-history, after_turn-node, after_turn-other, after_turn-other_history, after_turn-trace, next_notice, running_before_slot, Each-kept}

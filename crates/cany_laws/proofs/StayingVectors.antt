@@ -38,9 +38,9 @@ use Rattle.cany_model.proofs.Bus.Seen.{history-is, seen_frame}
 use Rattle.cany_model.proofs.Bus.States.{runs_within}
 use Rattle.cany_model.proofs.Promises.Diffusion.{past_of}
 use Rattle.cany_model.proofs.Promises.KeptVectors.{CarriesVector, CoversVector, IsKeptVector, kept_vectors, vector_at}
-use Rattle.cany_model.proofs.Rules.CycleFacts.{IsExchangeOf}
-use Rattle.cany_model.proofs.Rules.KnowledgeNodes.{IsVectorOfBus, first_members, knowledge_of_bus}
-use Rattle.cany_model.proofs.Rules.VectorFacts.{carries_vector}
+use Rattle.cany_model.proofs.Rules.Site.CycleFacts.{IsExchangeOf}
+use Rattle.cany_model.proofs.Rules.Site.KnowledgeNodes.{IsVectorOfBus, first_members, knowledge_of_bus}
+use Rattle.cany_model.proofs.Rules.Site.VectorFacts.{carries_vector}
 use Rattle.cany_model.proofs.Runs.Runs.{history-length, orderly}
 use Rattle.cany_model.proofs.Timed.Detector.Leaving.{HeedsNone, NoLeaveIn, asked_leavers, heeds_none, no_leaver, start_stays}
 use Rattle.cany_model.proofs.Timed.Detector.SilentNode.{asked_members, no_installed}

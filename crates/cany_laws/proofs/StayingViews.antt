@@ -14,7 +14,7 @@ use Rattle.cany_model.specs.Rules.Knowledge.{Knowledge}
 use Rattle.cany_model.specs.Rules.KnowledgeOf.{knowledge_of}
 use Rattle.cany_model.specs.Runs.Run.{run}
 use Rattle.cany_model.proofs.Rules.IncarnationFacts.{scenario_for-original}
-use Rattle.cany_model.proofs.Rules.KnowledgeSteps.{members_by}
+use Rattle.cany_model.proofs.Rules.Site.KnowledgeSteps.{members_by}
 use Rattle.cany_model.proofs.Timed.Views.SameView.{end_place}
 use Rattle.cany_laws.specs.Logs.{IsIncarnation, followed_by}
 use Rattle.cany_laws.specs.Views.{installed_as}

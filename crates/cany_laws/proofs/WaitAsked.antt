@@ -25,7 +25,7 @@ use Rattle.cany_model.proofs.Among.{Among, Each-weaker}
 use Rattle.cany_model.proofs.Bus.Carried.{Succeeds, Succeeds-from_sent, is_sent-from}
 use Rattle.cany_model.proofs.Promises.Diffusion.{Heard, Lived, Turned, copies_grow, past_of}
 use Rattle.cany_model.proofs.Promises.EachNode.{EachRunning, IsNew, blank_heard, each_running}
-use Rattle.cany_model.proofs.Rules.MessageKeys.{IsOneOf}
+use Rattle.cany_model.proofs.Rules.Services.MessageKeys.{IsOneOf}
 use Rattle.cany_model.proofs.Rules.ProtocolFacts.{IsFounded, MayWithdraw, answered, closes, data_is_no_other, enough, enough_accept, settles}
 use Rattle.cany_model.proofs.Rules.TurnFacts.{turn_effect}
 use Rattle.cany_model.proofs.Rules.Waits.{Asks, Withdraws, waits-without, waits_after}

@@ -23,10 +23,10 @@ use Rattle.cany_model.specs.Rules.Turn.{protocols, turn_effects}
 use Rattle.cany_model.proofs.Among.{Among, Among-append_cases, Among-from_flat_map, Among-gives, Among-with}
 use Rattle.cany_model.proofs.Bus.Identities.{same_identity-from}
 use Rattle.cany_model.proofs.Promises.Diffusion.{copies_got}
-use Rattle.cany_model.proofs.Rules.MessageKeys.{IsOneOf}
+use Rattle.cany_model.proofs.Rules.Services.MessageKeys.{IsOneOf}
 use Rattle.cany_model.proofs.Rules.ProtocolFacts.{IsLawful, asks_named}
 use Rattle.cany_model.proofs.Rules.Protocols.{are_lawful}
-use Rattle.cany_model.proofs.Rules.SendFacts.{is_sent_in-true, sendable_one, sent_of}
+use Rattle.cany_model.proofs.Rules.Services.SendFacts.{is_sent_in-true, sendable_one, sent_of}
 use Rattle.cany_model.proofs.Rules.Waits.{Asks}
 
 -- the newest notice brought the first copy, and the node has not read an own transmission of the

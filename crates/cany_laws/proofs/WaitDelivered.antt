@@ -48,12 +48,12 @@ use Rattle.cany_model.proofs.Promises.EachNode.{EachRunning, each_running}
 use Rattle.cany_model.proofs.Promises.OneFrame.{only_frame}
 use Rattle.cany_model.proofs.Promises.Sources.{sourced}
 use Rattle.cany_model.proofs.Bus.Carried.{Has, carried_frame}
-use Rattle.cany_model.proofs.Rules.DeliveryFacts.{DeliversAtOnce, entry_from_brought}
-use Rattle.cany_model.proofs.Rules.EdcanFacts.{edcan_delivers}
+use Rattle.cany_model.proofs.Rules.Services.DeliveryFacts.{DeliversAtOnce, entry_from_brought}
+use Rattle.cany_model.proofs.Rules.Services.EdcanFacts.{edcan_delivers}
 use Rattle.cany_model.proofs.Rules.LogFacts.{log_has}
-use Rattle.cany_model.proofs.Rules.MessageKeys.{IsOneOf}
+use Rattle.cany_model.proofs.Rules.Services.MessageKeys.{IsOneOf}
 use Rattle.cany_model.proofs.Rules.Protocols.{IsProtocol, edcan_is_one, relcan_is_one}
-use Rattle.cany_model.proofs.Rules.RelcanFacts.{relcan_delivers}
+use Rattle.cany_model.proofs.Rules.Services.RelcanFacts.{relcan_delivers}
 use Rattle.cany_model.proofs.Rules.TurnFacts.{turn_cause_data}
 use Rattle.cany_model.proofs.Runs.FrameInvariants.{history_note}
 use Rattle.cany_model.proofs.Runs.Runs.{history-length, orderly}

@@ -29,7 +29,7 @@ use Rattle.cany_model.proofs.Bus.States.{node_at-opening, runs_within}
 use Rattle.cany_model.proofs.Promises.Agreement.{idle_carries}
 use Rattle.cany_model.proofs.Promises.Diffusion.{copies_grow}
 use Rattle.cany_model.proofs.Promises.OwnSlotsAlone.{AllWaitForOwnSlots, own_slots_alone_run, sent_plain}
-use Rattle.cany_model.proofs.Rules.MessageKeys.{IsOneOf}
+use Rattle.cany_model.proofs.Rules.Services.MessageKeys.{IsOneOf}
 use Rattle.cany_model.proofs.Runs.Runs.{IsOrderly}
 use Rattle.cany_model.proofs.Runs.Steps.{MayTurn, after_slot-history, after_slot-present, after_slot-trace, after_slot-waiting, after_turn-history, next_notice, running_before_slot}
 use Rattle.cany_model.proofs.Timed.Common.Counting.{total}

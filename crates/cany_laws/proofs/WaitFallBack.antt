@@ -19,7 +19,7 @@ use Rattle.cany_model.specs.Rules.Messages.{Message, data_id, messages_of}
 use Rattle.cany_model.specs.Rules.Relcan.{confirm_effects, confirm_frame, fall_back_effects, falls_back, has_confirm, has_copy, is_first_got, is_timed, late_copy_effects, relcan_at, relcan_effects, timer_effects}
 use Rattle.cany_model.specs.Rules.Turn.{turn_effects}
 use Rattle.cany_model.proofs.Among.{Among, Among-append_cases}
-use Rattle.cany_model.proofs.Rules.MessageKeys.{IsOneOf}
+use Rattle.cany_model.proofs.Rules.Services.MessageKeys.{IsOneOf}
 use Rattle.cany_model.proofs.Rules.Waits.{Asks}
 use Rattle.cany_laws.proofs.WaitAsksOnce.{AtItsSlot, asked_why, no_delivery, sends_in_slot}
 use Rattle.cany_laws.proofs.CarriedRelcan.{no_late}

@@ -30,8 +30,8 @@ use Rattle.cany_model.proofs.Promises.WithinSeen.{within_seen}
 use Rattle.cany_model.proofs.Bus.States.{no_note}
 use Rattle.cany_model.proofs.Promises.Agreement.{seen_clean}
 use Rattle.cany_model.proofs.Promises.Diffusion.{Heard}
-use Rattle.cany_model.proofs.Rules.AskedFacts.{asked_at_once}
-use Rattle.cany_model.proofs.Rules.MessageKeys.{IsOneOf}
+use Rattle.cany_model.proofs.Rules.Services.AskedFacts.{asked_at_once}
+use Rattle.cany_model.proofs.Rules.Services.MessageKeys.{IsOneOf}
 use Rattle.cany_model.proofs.Runs.Runs.{history-length, slot_done}
 use Rattle.cany_model.proofs.Runs.SlotStates.{slot_has_state, slot_state_is}
 use Rattle.cany_model.proofs.Timed.Windows.QuietSlots.{front_trace, within_dropped}

@@ -28,7 +28,7 @@ use Rattle.cany_model.proofs.Bus.Seen.{Among-seen, seen_plain}
 use Rattle.cany_model.proofs.Bus.States.{runs_within}
 use Rattle.cany_model.proofs.Promises.Agreement.{idle_carries}
 use Rattle.cany_model.proofs.Promises.Diffusion.{copies_grow}
-use Rattle.cany_model.proofs.Rules.MessageKeys.{IsOneOf}
+use Rattle.cany_model.proofs.Rules.Services.MessageKeys.{IsOneOf}
 use Rattle.cany_model.proofs.Runs.Runs.{IsOrderly, history-length}
 use Rattle.cany_model.proofs.Runs.Steps.{MayTurn, after_slot-history, after_slot-present, after_slot-trace, after_slot-waiting, after_turn-history, after_turn-present, after_turn-trace, next_notice, running_before_slot}
 use Rattle.cany_laws.proofs.WaitAsksOnce.{AtItsSlot}
@@ -46,7 +46,7 @@ use Rattle.cany_model.proofs.Bus.Notes.{given-Got, given-Sent, sender_waits}
 use Rattle.cany_model.proofs.Bus.Seen.{seen_idle}
 use Rattle.cany_model.proofs.Promises.EachNode.{restarted_new}
 use Rattle.cany_model.proofs.Promises.Sources.{IsSourced, MayHold, sourced}
-use Rattle.cany_model.proofs.Rules.MessageKeys.{same_message}
+use Rattle.cany_model.proofs.Rules.Services.MessageKeys.{same_message}
 use Rattle.cany_model.proofs.Rules.ProtocolFacts.{is_data}
 use Rattle.cany_model.proofs.Runs.Journals.{run_none}
 use Rattle.cany_model.proofs.Runs.Runs.{orderly, orderly_slot}

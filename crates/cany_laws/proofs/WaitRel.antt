@@ -23,7 +23,7 @@ use Rattle.cany_model.specs.Runs.Run.{after_turn, run}
 use Rattle.cany_model.proofs.Among.{Among-from_Contains, Among-weaker, any-from_Among, one_at_most, one_if}
 use Rattle.cany_model.proofs.Bus.Restarts.{Restarts, after_restarts-trace, restarts_or_stays}
 use Rattle.cany_model.proofs.Bus.States.{node_at-opening, runs_within}
-use Rattle.cany_model.proofs.Rules.MessageKeys.{IsOneOf}
+use Rattle.cany_model.proofs.Rules.Services.MessageKeys.{IsOneOf}
 use Rattle.cany_model.proofs.Runs.Runs.{IsOrderly, history-length}
 use Rattle.cany_model.proofs.Runs.Steps.{MayTurn, after_slot-history, after_slot-waiting, after_turn-history, after_turn-node, next_notice, running_before_slot}
 use Rattle.cany_model.proofs.Rules.Waits.{waits-from_after}

@@ -23,7 +23,7 @@ use Rattle.cany_model.proofs.Bus.Notes.{note_of-offered}
 use Rattle.cany_model.proofs.Bus.Restarts.{after_restarts-trace, restarts_or_stays}
 use Rattle.cany_model.proofs.Bus.States.{node_at-opening, node_at_past}
 use Rattle.cany_model.proofs.Promises.Agreement.{idle_carries}
-use Rattle.cany_model.proofs.Rules.MessageKeys.{IsOneOf}
+use Rattle.cany_model.proofs.Rules.Services.MessageKeys.{IsOneOf}
 use Rattle.cany_model.proofs.Runs.FrameInvariants.{history_among}
 use Rattle.cany_model.proofs.Runs.Runs.{IsKept, IsOrderly, along_run, history-length, opening_within}
 use Rattle.cany_model.proofs.Runs.Steps.{MayTurn, after_slot-length, after_slot-trace, after_slot-waiting, after_turn-history, after_turn-node, after_turn-trace, next_notice, running_before_slot}
