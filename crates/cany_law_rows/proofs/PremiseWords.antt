@@ -31,8 +31,8 @@ use Rattle.cany_model.proofs.Timed.Views.LoggedViews.{installed_read}
 use Rattle.cany_laws.specs.Logs.{IsIncarnation, followed_by, past_of, present_of}
 use Rattle.cany_laws.specs.Removal.{GaveNoJoin, got_join}
 use Rattle.cany_laws.specs.Views.{installed_as}
-use Rattle.cany_laws.proofs.EachView.{past_length}
-use Rattle.cany_laws.proofs.Lives.{lived}
+use Rattle.cany_laws.proofs.Members.EachView.{past_length}
+use Rattle.cany_laws.proofs.Silences.Lives.{lived}
 use Rattle.cany_law_rows.proofs.RowWords.{of_nodes, seen_by, seen_in, seen_of, seen_of_is, within, Seen}
 
 -- ---- what a row has computed
