@@ -81,9 +81,9 @@ fn perform_text<C: Command, K: Sink>(
 /// journal, and writes the command's text of the run to the sink. It answers the status of the
 /// program, one of those in `status` or a status of success of the command.
 ///
-/// Each answer has its cause: `IsPerformed` says which, field by field. Causes are looked at in
-/// this order: the words, the command's refusal of them, the reading, the text, the command's
-/// refusal of the scenario, the journal, the writing.
+/// What is due for the words and the bytes is done, a stream fails, or there is no memory:
+/// `IsPerformed` says this. Causes are looked at in this order: the words, the command's refusal of
+/// them, the reading, the text, the command's refusal of the scenario, the journal, the writing.
 pub fn perform<C: Command, S: Source, K: Sink>(
     alloc: Global,
     command: &C,
