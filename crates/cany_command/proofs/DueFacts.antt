@@ -17,7 +17,7 @@ use Rattle.cany_command.specs.Refused.{Chosen, chosen_refusal, own_fault, refusa
 
 -- ---- of a text
 
--- what is due of a text, by the line that refuses it, the answer to it, and the scenario that is run
+-- what is due of a text, by the line that refuses it, the answer to it and the scenario that is run
 abbrev TextReason : RunText → Option (List ℕ) → List ℕ → (ScenarioParts → Type 0) → Due → Type 0
 TextReason text refusal answer Is (WordsRefused line) = ⊥
 TextReason text refusal answer Is TooLong = ⊥

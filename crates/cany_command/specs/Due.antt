@@ -1,5 +1,5 @@
--- What is due: the one thing that a call has to do for its words and for the bytes of its source. It
--- is done unless a stream fails or there is no memory.
+-- What is due: the one thing that a call has to do for its words and for the bytes of its source.
+-- It is done unless a stream fails or there is no memory.
 use Rattle.std.specs.Prelude.{ℕ, nat_lt, if◌then◌else◌, List, length, Ok, Err}
 use Rattle.std.specs.Option.{option_map_or}
 use Rattle.cany_base.specs.declared.step.Step.{Step}
