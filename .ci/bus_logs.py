@@ -5,9 +5,9 @@ import subprocess
 import tempfile
 from pathlib import Path
 
-import report as reports
-import wire
 from buslog import Clock, asc, at_the_nodes, candump, on_the_bus
+from lib import report as reports
+from lib import wire
 from readings import stored
 
 LIMIT = 60

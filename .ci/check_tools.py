@@ -21,6 +21,7 @@ import program
 import readings
 import sweeping
 import viewer
+import vocabulary
 from tally import Tally
 
 
@@ -43,6 +44,7 @@ def main():
         return 0
     tally, built = Tally(), built_program(given.program)
     subjects = {
+        "words": lambda: vocabulary.check(ROOT, tally, built),
         "reading": lambda: readings.check(ROOT, tally),
         "drawing": lambda: drawings.check(ROOT, tally, built),
         "bus logs": lambda: bus_logs.check(ROOT, tally),

@@ -9,12 +9,10 @@ import tempfile
 import xml.etree.ElementTree as ElementTree
 from pathlib import Path
 
-import chart
-import columns
-import picture
 import pictures
-import report as reports
-from draw import MOST_SLOT
+from lib import chart, columns, picture
+from lib import report as reports
+from lib.columns import MOST_SLOT
 from readings import LIMIT, at_once, stored, tool
 
 # By the name of a file of tools/expected: the script and its arguments that write it.

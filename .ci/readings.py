@@ -5,9 +5,9 @@ import subprocess
 import sys
 from concurrent.futures import ThreadPoolExecutor
 
-import report as reports
-import verdict
-from lines import Malformed
+from lib import report as reports
+from lib import verdict
+from lib.lines import Malformed
 
 LIMIT = 240
 REPORT, DRAW, BUSLOG = "report.py", "draw.py", "buslog.py"

@@ -14,12 +14,11 @@ from collections import Counter
 from pathlib import Path
 
 import program as programs
-import report as reports
-import scenario as scenarios
-import storm_text
-import verdict
+from lib import report as reports
+from lib import scenario as scenarios
+from lib import storm, verdict
+from lib.report import Delivery, Failure, View
 from readings import LIMIT, at_once, stored, tool
-from report import Delivery, Failure, View
 
 SWEEP, SHRINK, STORM = "sweep.py", "shrink.py", "storm_text.py"
 
@@ -248,7 +247,7 @@ def check_shrink(root, tally, stand_in, folder):
 
 def check_words(tally):
     """The first words of the generator at the state and stream of its authors' example."""
-    words = storm_text.Words(42, 54)
+    words = storm.Words(42, 54)
     found = [words.next() for _ in range(6)]
     tally.check(found == [0xA15C02B7, 0x7B47F409, 0xBA1D3330, 0x83D2F293, 0xBFA4784B, 0xCBED606E], f"the generator's words are {found}")
 

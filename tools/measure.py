@@ -12,14 +12,13 @@ from typing import NamedTuple, Optional
 
 sys.dont_write_bytecode = True
 
-import command
-from lines import Malformed, set_text
-from report import CLASSES, Delivery, Failure, View, report_from
-from scenario import keys_of, scenario_from
-from verdict import read_check
-from wire import ERROR_FRAME_BITS, SLOT_BITS, identifier, length
+from lib import command
+from lib.report import Delivery, Failure, View, report_from
+from lib.scenario import keys_of, scenario_from
+from lib.verdict import check_from
+from lib.wire import ERROR_FRAME_BITS, SLOT_BITS, identifier, length
+from lib.words import CLASSES, FAULTY, SERVICES
 
-SERVICES = ("ed", "rel", "tot")
 INTERMISSION_BITS = 3
 
 
@@ -91,7 +90,7 @@ def by_class(facts):
         verdicts = Counter(slot.verdict for slot in facts.frames if slot.frame.kind == kind)
         count = sum(verdicts.values())
         if count:
-            errors = " ".join(f"{it} {verdicts[it]}" for it in ("lost", "partial", "silent"))
+            errors = " ".join(f"{it} {verdicts[it]}" for it in FAULTY)
             yield f"class {kind} frames {count} {errors} permille {permille(count, slots)}"
 
 
@@ -194,10 +193,7 @@ def asks_from(given):
         except (KeyError, TypeError):
             raise command.Failure(command.REFUSED, f"{given.scenario}: is no scenario that the program reads") from None
     if given.check:
-        try:
-            found = read_check(command.read_bytes(given.check))
-        except Malformed as error:
-            raise command.Failure(command.REFUSED, f"{given.check}: {error}") from None
+        found = check_from(given.check)
         return Asks({(it.service, it.origin, it.seq): it.slot for it in found.messages}, None)
     return Asks({}, None)
 

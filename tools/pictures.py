@@ -8,11 +8,10 @@ from pathlib import Path
 
 sys.dont_write_bytecode = True
 
-import command
-from columns import columns
-from draw import MOST_SLOT, PAGE_WIDTH
-from picture import picture
-from report import report_from
+from lib import command
+from lib.columns import MOST_SLOT, columns
+from lib.picture import PAGE_WIDTH, picture
+from lib.report import report_from
 
 ROOT = Path(__file__).resolve().parent.parent
 

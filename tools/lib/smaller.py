@@ -1,10 +1,9 @@
 """Scenarios that are smaller than one: without some of its entries or nodes, with smaller sets, fewer slots, lower or earlier entries."""
-from scenario import TABLES, keys_of
+from .scenario import keys_of
+from .words import LIMITS, OF_MESSAGES, TABLES
 
-# The classes whose frames are those of a message, which another send of its origin may renumber.
-OF_MESSAGES = ("ed", "rel", "tot", "accept", "confirm")
+# The parameters and keys that a scenario may lack.
 OPTIONAL = ("journal", "members", "confirm", "silence", "life", "cycle", "bound", "errors", "omit", "lag")
-LEAST_NODES = 2
 
 
 def changed(scenario, **tables):
@@ -81,7 +80,7 @@ def without_node(scenario, node):
 
 
 def fewer_nodes(scenario):
-    if scenario["nodes"] > LEAST_NODES:
+    if scenario["nodes"] > LIMITS.least_nodes:
         yield from filter(None, (without_node(scenario, node) for node in reversed(range(scenario["nodes"]))))
 
 

@@ -11,9 +11,10 @@ import time
 from pathlib import Path
 from typing import NamedTuple
 
-import command
-from scenario import TABLES, scenario_text
-from verdict import BROKEN, HELD, OPEN
+from . import command
+from .scenario import scenario_text
+from .verdict import BROKEN, HELD, OPEN
+from .words import TABLES
 
 CASES_IN_FOLDER = 1000
 # The exit statuses that a case has for good. One that ended otherwise, as where memory or the disk was full, is tried again.
@@ -218,7 +219,7 @@ def run_cases(words, paths, jobs, limit):
         counts.stop.value = 1
         for it in workers:
             it.join()
-        raise command.Failure(130, f"interrupted; {counts.done.value - before} cases were run, and the same command goes on") from None
+        raise command.Failure(command.INTERRUPTED, f"interrupted; {counts.done.value - before} cases were run, and the same command goes on") from None
     if said.poll() or any(it.exitcode for it in workers):
         why = said.recv() if said.poll() else "a worker was ended"
         raise command.Failure(command.WRITE_FAILED, f"cannot go on: {why}; the same command does, where it was")
