@@ -14,6 +14,7 @@ sys.dont_write_bytecode = True
 ROOT = Path(__file__).resolve().parent.parent
 sys.path.insert(0, str(ROOT / "tools"))
 
+import building
 import bus_logs
 import drawings
 import parameters
@@ -49,6 +50,7 @@ def main():
         "drawing": lambda: drawings.check(ROOT, tally, built),
         "bus logs": lambda: bus_logs.check(ROOT, tally),
         "viewer": lambda: viewer.check(ROOT, tally),
+        "building": lambda: building.check(ROOT, tally),
         "parameters": lambda: parameters.check(ROOT, tally, built),
         "sweeps": lambda: sweeping.check(ROOT, tally, built),
     }
