@@ -8,7 +8,7 @@ from pathlib import Path
 from buslog import Clock, asc, at_the_nodes, candump, on_the_bus
 from lib import report as reports
 from lib import wire
-from readings import stored
+from readings import stored, stored_bytes
 
 LIMIT = 60
 FORMATS = {"One": 1, "Two": 2}
@@ -65,7 +65,7 @@ def check_bits(tally):
 
 
 def lines_of(root, name, events):
-    report = reports.read_report((root / f"scenarios/{name}.report").read_bytes())
+    report = reports.read_report(stored_bytes(root, f"{name}.report"))
     return list(candump(report, events(report), Clock(500_000, 0), "can", False))
 
 
@@ -141,7 +141,7 @@ def check_tshark(root, folder, tally):
     print(f"bus logs: {version} reads them")
     fields = [word for name in ("class", "node", "incarnation", "number", "vector") for word in ("-e", f"canely.{name}")]
     for name in (*READ_BY_TOOLS, "forty_nodes"):
-        report = reports.read_report((root / f"scenarios/{name}.report").read_bytes())
+        report = reports.read_report(stored_bytes(root, f"{name}.report"))
         script = ["-X", f"lua_script:{root / 'tools/canely.lua'}", "-o", f"canely.format:{report.format}"]
         found = ran("tshark", *script, "-r", str(folder / f"{name}.log"), "-T", "fields", "-E", "separator=;", *fields)
         wanted = []
@@ -156,7 +156,7 @@ def check_tools(root, tally):
     with tempfile.TemporaryDirectory() as place:
         folder = Path(place)
         for name in (*READ_BY_TOOLS, "forty_nodes"):
-            report = reports.read_report((root / f"scenarios/{name}.report").read_bytes())
+            report = reports.read_report(stored_bytes(root, f"{name}.report"))
             text = lambda lines: "".join(f"{line}\n" for line in lines)
             (folder / f"{name}.log").write_text(text(candump(report, on_the_bus(report), Clock(500_000, 0), "can", False)))
             (folder / f"{name}.asc").write_text(text(asc(report, on_the_bus(report), Clock(500_000, 0))))

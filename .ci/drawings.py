@@ -13,7 +13,7 @@ import pictures
 from lib import chart, columns, picture
 from lib import report as reports
 from lib.columns import MOST_SLOT
-from readings import LIMIT, at_once, stored, tool
+from readings import LIMIT, at_once, stored, stored_path, tool
 
 # By the name of a file of tools/expected: the script and its arguments that write it.
 EXPECTED = {
@@ -44,7 +44,7 @@ MOST_PICTURE_BYTES = 100_000
 
 
 def made(root, command):
-    name, *arguments = shlex.split(command)
+    name, *arguments = shlex.split(re.sub(r"scenarios/(\S+)", lambda it: stored_path(root, it[1]), command))
     return tool(root, name, *arguments)
 
 

@@ -9,7 +9,7 @@ import params
 import program as programs
 from lib import report as reports
 from lib.report import View
-from readings import at_once, stored, tool
+from readings import at_once, stored, stored_bytes, tool
 
 SLOT = Fraction(180, 500_000)
 PARAMS = "params.py"
@@ -108,7 +108,7 @@ def late_after(ask, most):
 
 def first_members(root, name, report):
     """The members of view 0, which the scenario says."""
-    found = re.search(r"(?m)^members = \[(.*)\]", (root / f"scenarios/{name}.toml").read_text(encoding="utf-8"))
+    found = re.search(r"(?m)^members = \[(.*)\]", stored_bytes(root, f"{name}.toml").decode())
     return [int(it) for it in found[1].split(",")] if found else range(report.parameters["nodes"])
 
 

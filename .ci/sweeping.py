@@ -18,7 +18,7 @@ from lib import report as reports
 from lib import scenario as scenarios
 from lib import storm, verdict
 from lib.report import Delivery, Failure, View
-from readings import LIMIT, at_once, stored, tool
+from readings import LIMIT, at_once, stored, stored_bytes, stored_path, tool
 
 SWEEP, SHRINK, STORM = "sweep.py", "shrink.py", "storm_text.py"
 
@@ -115,7 +115,7 @@ class StandIn:
         self.path, self.log, held = folder / "canely", folder / "log", folder / "held"
         held.write_text(HELD)
         self.log.write_text("")
-        report = root / "scenarios/one_message_no_fault.report"
+        report = root / stored_path(root, "one_message_no_fault.report")
         self.path.write_text(STAND_IN.format(python=sys.executable, report=report, log=self.log, held=held))
         self.path.chmod(self.path.stat().st_mode | stat.S_IXUSR)
 
@@ -175,7 +175,7 @@ def check_cut_off(root, tally, stand_in, folder):
 
 
 def check_sweep(root, tally, stand_in, folder):
-    made = tool(root, SWEEP, "faults", "scenarios/one_message_no_fault.toml", str(folder), "--program", str(stand_in.path), "--reject", "all")
+    made = tool(root, SWEEP, "faults", stored_path(root, "one_message_no_fault.toml"), str(folder), "--program", str(stand_in.path), "--reject", "all")
     tally.check(made == (0, f"20 cases in {folder}\n".encode(), ""), f"sweep.py faults makes {made}, and not 20 cases")
     check_cut_off(root, tally, stand_in, folder)
     ended, wrote, said = tool(root, SWEEP, "sum", str(folder))
@@ -196,7 +196,7 @@ def check_sweep(root, tally, stand_in, folder):
 def check_damaged(root, tally, stand_in, folder):
     """Sums of cases that are left or that ended otherwise, and a case that went away."""
     words = ["--program", str(stand_in.path)]
-    tool(root, SWEEP, "faults", "scenarios/one_message_no_fault.toml", str(folder), *words, "--verdicts", "silent", "--stop", "none")
+    tool(root, SWEEP, "faults", stored_path(root, "one_message_no_fault.toml"), str(folder), *words, "--verdicts", "silent", "--stop", "none")
     left = tool(root, SWEEP, "sum", str(folder))
     tally.check(left[0] == 10 and left[1].startswith(b"cases 3 judged 0 otherwise 0 left 3\n") and not left[2], f"sweep.py sum of what is not judged: {left}")
     tool(root, SWEEP, "run", str(folder), *words)
@@ -280,7 +280,7 @@ def check_storms(root, tally, program):
 def check_verdicts(root, tally, program):
     """What `canely check` writes of each stored scenario is read whole; of those that are stored as texts it is that text."""
     for name in stored(root):
-        status, text, _ = programs.call(program, ["check"], (root / f"scenarios/{name}.toml").read_bytes())
+        status, text, _ = programs.call(program, ["check"], stored_bytes(root, f"{name}.toml"))
         check = verdict.read_check(text)
         tally.check(check.status == status, f"canely check of {name} ends with {status}, and its text is that of {check.status}")
         tally.check(len(list(verdict.facts(check))) == text.count(b"\n"), f"canely check of {name}: its lines are read wrong")
@@ -295,19 +295,19 @@ def check_with_program(root, tally, program, folder):
     """A sweep of a scenario, judged by the program; one case of it is shrunk."""
     words = ["--program", str(program)]
     shape = ["--class", "tot,accept", "--verdicts", "partial,silent", "--faults", "2", "--sample", "12", "--seed", "3"]
-    made = tool(root, SWEEP, "faults", "scenarios/totcan_accept_survives_its_sender.toml", str(folder), *words, *shape)
+    made = tool(root, SWEEP, "faults", stored_path(root, "totcan_accept_survives_its_sender.toml"), str(folder), *words, *shape)
     tally.check(made[:2] == (0, f"12 cases in {folder}\n".encode()), f"sweep.py faults with two faults: {made}")
     tool(root, SWEEP, "run", str(folder), *words)
     status, wrote, _ = tool(root, SWEEP, "sum", str(folder))
     tally.check(status == 0 and wrote.startswith(b"cases 12 judged 12 otherwise 0 left 0\n"), f"sweep.py sum: {status} {wrote.decode()}")
-    text = (root / "scenarios/silent_omission_is_outside.toml").read_bytes()
+    text = stored_bytes(root, "silent_omission_is_outside.toml")
     ended, wrote, said = tool(root, SHRINK, *words, "--part", "agreement tot", stdin=text)
     lines = wrote.decode().splitlines()
     is_small = ended == 0 and "nodes = 2" in lines and lines.count("[[send]]") == lines.count("[[fault]]") == 1
     tally.check(is_small, f"shrink.py with {program.name}: {ended} {said} {lines}")
 
 
-def ends(stand_in, folder):
+def ends(root, stand_in, folder):
     """Wrong words and inputs: the words, the input, the status, and the line that is said."""
     program = ["--program", str(stand_in.path)]
     yield [SWEEP], "", 2, "sweep.py: the following arguments are required: COMMAND; see sweep.py --help"
@@ -330,14 +330,14 @@ def ends(stand_in, folder):
     yield [SWEEP, "run", str(folder), "--program", "false"], "", 2, "sweep.py: false has no command check"
     yield [SWEEP, "faults", "-", f"{folder}/new", *program], "nodes = ", 3, "sweep.py: standard input: is no scenario: Invalid value (at end of document)"
     yield [STORM, "4294967296"], "", 2, "storm_text.py: argument NUMBER: '4294967296' is no number from 0 to 4294967295; see storm_text.py --help"
-    other = "scenarios/three_services.toml"
+    other = stored_path(root, "three_services.toml")
     wanted = f"measure.py: {other}: its messages are not those of the report"
-    yield ["measure.py", "scenarios/restart_joins.report", "--scenario", other], "", 3, wanted
+    yield ["measure.py", stored_path(root, "restart_joins.report"), "--scenario", other], "", 3, wanted
     yield ["measure.py", "--check", other], "", 3, "measure.py: standard input: line 1: the text is empty"
 
 
 def check_ends(root, tally, stand_in, folder):
-    calls = list(ends(stand_in, folder))
+    calls = list(ends(root, stand_in, folder))
     found = at_once(calls, lambda words, stdin, *_: tool(root, *words, stdin=stdin.encode()))
     for (words, _, status, line), (ended, wrote, said) in found:
         is_wanted = (ended, wrote, said) == (status, b"", f"{line}\n")

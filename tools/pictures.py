@@ -1,5 +1,5 @@
 #!/usr/bin/env python3
-"""Draws the pictures of the pages, docs/pictures/NAME.svg, each from scenarios/NAME.report:
+"""Draws the pictures of the pages, docs/pictures/NAME.svg, each from the report NAME.report of scenarios/:
 
     tools/pictures.py [FOLDER]
 """
@@ -28,7 +28,8 @@ TITLES = {
 
 def drawn(name):
     """The text of a picture."""
-    report = report_from(str(ROOT / f"scenarios/{name}.report"))
+    (place,) = ROOT.glob(f"scenarios/**/{name}.report")
+    report = report_from(str(place))
     lines = picture(report, columns(report, 0, MOST_SLOT, False), None, TITLES[name], PAGE_WIDTH, False)
     return "".join(f"{line}\n" for line in lines)
 
