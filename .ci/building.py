@@ -77,7 +77,7 @@ def check_running(tree, tally):
     found = tree.ran("run.py", "check", rt=False)
     tally.check(found == (1, "", f"run.py: {NO_RT}\n"), f"run.py without rt and a program: {found}")
     found = tree.ran("run.py", "watch", "1")
-    wanted = (9, "tried watch 1 text\n", "run.py: building the program without a proof, which takes one to five minutes\n")
+    wanted = (9, "tried watch 1 text\n", "run.py: building the program without a proof, which takes one to four minutes, more on a loaded machine\n")
     tally.check(found == wanted, f"run.py without a program: {found}")
     tree.program("crates/canely/out/canely", "old", 5)
     tally.check(tree.ran("run.py", "check", rt=False)[0] == 1, "run.py runs a program that is older than the sources")

@@ -204,9 +204,10 @@ def check_damaged(root, tally, stand_in, folder):
     first, second, third = all_cases(folder, ".check")
     first.write_bytes(b"")
     first.with_suffix(".status").write_text("5 canely: cannot write\n")
+    second.write_bytes(b"")
     tally.check(tool(root, SWEEP, "sum", str(folder))[0] == 3, "sweep.py sum does not end with 3 where a case could not be written")
     tool(root, SWEEP, "run", str(folder), *words)
-    tally.check(tool(root, SWEEP, "sum", str(folder))[0] == 0, "sweep.py run does not try again a case that could not be written")
+    tally.check(tool(root, SWEEP, "sum", str(folder))[0] == 0, "sweep.py run does not try again a case that could not be written, or whose text is gone")
     first.write_bytes(first.read_bytes()[:-9])
     second.write_bytes(HELD.encode())
     third.with_suffix(".status").unlink()
@@ -331,9 +332,7 @@ def ends(root, stand_in, folder):
     yield [SWEEP, "faults", "-", f"{folder}/new", *program], "nodes = ", 3, "sweep.py: standard input: is no scenario: Invalid value (at end of document)"
     yield [STORM, "4294967296"], "", 2, "storm_text.py: argument NUMBER: '4294967296' is no number from 0 to 4294967295; see storm_text.py --help"
     other = stored_path(root, "three_services.toml")
-    wanted = f"measure.py: {other}: its messages are not those of the report"
-    yield ["measure.py", stored_path(root, "restart_joins.report"), "--scenario", other], "", 3, wanted
-    yield ["measure.py", "--check", other], "", 3, "measure.py: standard input: line 1: the text is empty"
+    yield [SWEEP, "faults", other, f"{folder}/new", "--sample", "0"], "", 2, f"{SWEEP} faults: argument --sample: '0' is no number from 1 to 1000000; see {SWEEP} faults --help"
 
 
 def check_ends(root, tally, stand_in, folder):

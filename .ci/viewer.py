@@ -163,6 +163,8 @@ BAD = [
     (b"", "line 1: the file is empty"),
     (b"storm 7\n", "line 1: this is not the first line of a report"),
     (b"refused not toml\n", "line 1: the program refused its input, and wrote no report: refused not toml"),
+    (b"\xef\xbb\xbfcanely report 1\n", "line 1: this is not the first line of a report"),
+    (b"canely check 1\n", "line 1: this is a verdict of canely check; canely replay writes the report of the same run"),
     (b"canely report 3\n", "line 1: the report is of format 3, and this viewer knows 1 and 2"),
 ]
 

@@ -35,9 +35,19 @@ def arguments():
     return parser.parse_args()
 
 
+def check_slots(given, report):
+    """Ends the command where no slot of the run is asked for."""
+    slots = report.parameters["slots"]
+    if given.first > given.last:
+        raise command.Failure(command.WRONG_ARGUMENTS, f"--from {given.first} comes after --to {given.last}")
+    if given.first >= slots:
+        raise command.Failure(command.WRONG_ARGUMENTS, f"--from {given.first} comes after the run, which has {slots} slots")
+
+
 def draw(given):
     report = report_from(given.file)
-    check = check_from(given.check) if given.check else None
+    check = check_from(given.check, report) if given.check else None
+    check_slots(given, report)
     shown = columns(report, given.first, given.last, given.all)
     if given.svg:
         shown = shown if given.all else fold(shown, min(MOST_COLUMNS, MOST_MARKS // len(report.nodes)))

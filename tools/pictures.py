@@ -35,11 +35,12 @@ def drawn(name):
 
 
 def draw_all(folder):
-    for name in TITLES:
-        try:
+    try:
+        folder.mkdir(parents=True, exist_ok=True)
+        for name in TITLES:
             (folder / f"{name}.svg").write_text(drawn(name), encoding="utf-8")
-        except OSError as error:
-            raise command.Failure(command.WRITE_FAILED, f"cannot write to {folder}: {command.cause(error)}") from None
+    except OSError as error:
+        raise command.Failure(command.WRITE_FAILED, f"cannot write to {folder}: {command.cause(error)}") from None
 
 
 def main():

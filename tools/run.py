@@ -2,9 +2,9 @@
 """Runs the program from the sources of this tree: tools/run.py check < SCENARIO > VERDICT
 
 Where `tools/build.py`, `rt run` or `rt ci` has left a program of these sources, that one is run. Else `rt try` builds one without a
-proof, which takes one to five minutes, and runs it at once. That is for short runs: it stops a program after 60 seconds, or past a
-megabyte of output. The words after the script's name are those of `canely`. The exit status is that of the program, and 1 where there
-is none and no `rt`."""
+proof, which takes one to four minutes, more on a loaded machine, and runs it at once. That is for short runs: it stops a program after
+60 seconds, or past a megabyte of output. The words after the script's name are those of `canely`. The exit status is that of the
+program, and 1 where there is none and no `rt`."""
 import os
 import shutil
 import subprocess
@@ -20,7 +20,7 @@ from lib import command
 ROOT = Path(__file__).resolve().parent.parent
 PROGRAMS = (ROOT / "build/canely", ROOT / "crates/canely/out/canely")
 # Seconds between two signs of life.
-PAUSE = 15
+PAUSE = 10
 
 
 def built():
@@ -51,7 +51,7 @@ def copy(source, ended):
 def build_and_run(words):
     if shutil.which("rt") is None:
         raise command.Failure(command.NOT_BUILT, "no rt on the path: put the folder bin of the Rattle kit there")
-    say("building the program without a proof, which takes one to five minutes")
+    say("building the program without a proof, which takes one to four minutes, more on a loaded machine")
     ended = threading.Event()
     threading.Thread(target=tell, args=(ended,), daemon=True).start()
     with subprocess.Popen(["rt", "try", "--", *words], cwd=ROOT / "crates/canely", stdout=subprocess.PIPE) as ran:

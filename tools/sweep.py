@@ -158,7 +158,8 @@ def make_storms(given):
 
 def made(given, scenarios, scenario=None):
     count = write_cases(given.folder, scenarios, sys.argv[1:], scenario)
-    command.write([f"{count} cases in {given.folder}"])
+    has_journal = scenario is not None and "journal" in scenario
+    command.write([f"{count} cases in {given.folder}", *(["the scenario has a journal: a case whose run it does not fit is refused"] if has_journal else [])])
 
 
 # ---- judging
@@ -213,7 +214,7 @@ def faults_arguments(parser):
     parser.add_argument("--reject", type=rejects, default=1, metavar="N", help="the most receivers that reject together, 1 where not given, or all")
     parser.add_argument("--stop", type=words_of(STOPS), default=STOPS, metavar="LIST", help="none,senders where not given: with and without a stop of the senders")
     parser.add_argument("--class", type=words_of(CLASSES), default=(), dest="classes", metavar="LIST", help="frames of these classes alone")
-    number(parser, "--sample", MOST_CASES, 0, "so many of them alone")
+    parser.add_argument("--sample", type=command.number_between(1, MOST_CASES), metavar="N", help="so many of them alone")
     number(parser, "--seed", LIMITS.storm, 1, "the number from which the sample is drawn")
     parser.set_defaults(work=make_faults)
 

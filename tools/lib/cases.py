@@ -82,9 +82,16 @@ def status_of(path):
 
 
 def done_status(path):
-    """The exit status of a case that is done, or None."""
+    """The exit status of a case that is done, or None. One whose text is gone is not done."""
     found = status_of(path)
-    return found[0] if found and found[0] in DONE else None
+    return found[0] if found and found[0] in DONE and has_text(path) else None
+
+
+def has_text(path):
+    try:
+        return os.path.getsize(f"{path}.check") > 0
+    except FileNotFoundError:
+        return False
 
 
 def wait_for(file):

@@ -146,6 +146,12 @@ class Report:
         """The incarnations that run at the end: those of the correct nodes."""
         return [lives[-1] for lives in self.nodes if lives[-1].stopped is None]
 
+    def check_asks(self, slots, place):
+        """Ends a command where the slots of the sends, by message, are those of another run."""
+        keys = {(it.service, it.origin, it.seq) for it in self.messages}
+        if set(slots) != keys or max(slots.values(), default=0) >= self.parameters["slots"]:
+            raise command.Failure(command.REFUSED, f"{place}: its messages are not those of the report")
+
     def lines(self):
         """The lines of the report."""
         yield f"canely report {self.format}"

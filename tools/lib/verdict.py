@@ -234,12 +234,16 @@ def read_check(data):
     return Check(*found, only(wrong), messages, only(partings), views, signs, accusations, unused)
 
 
-def check_from(path):
-    """The text of check in a file, for a command."""
+def check_from(path, report):
+    """The text of check in a file, for a command that has the report of the same run."""
     try:
-        return read_check(command.read_bytes(path))
+        check = read_check(command.read_bytes(path))
     except Malformed as error:
         raise command.Failure(command.REFUSED, f"{path}: {error}") from None
+    if (check.format, check.first_break) != (report.format, report.first_break):
+        raise command.Failure(command.REFUSED, f"{path}: its format or its hypothesis is not that of the report")
+    report.check_asks({(it.service, it.origin, it.seq): it.slot for it in check.messages}, path)
+    return check
 
 
 def fact(thing):
