@@ -4,6 +4,7 @@ import os
 import re
 
 import program as programs
+import scenarios
 
 # The greatest length of a text.
 MOST_TEXT_BYTES = 33_554_432
@@ -124,7 +125,7 @@ def check_threads(tally, program, scenario):
 def check(root, tally, built):
     if not built:
         print("calls: not tried, since they need a built program")
-    scenario = root / "scenarios/one_message_no_fault.toml"
+    scenario = scenarios.place_of(root, "one_message_no_fault")
     for program in built:
         for arguments, line in WRONG_ARGUMENTS:
             found = programs.call(program, arguments, scenario.read_bytes())
@@ -132,6 +133,6 @@ def check(root, tally, built):
         check_streams(tally, program, scenario)
         check_texts(tally, program)
         check_storms(tally, program)
-        check_given_journal(tally, program, root / "scenarios/round_robin_may_be_given.toml")
+        check_given_journal(tally, program, scenarios.place_of(root, "round_robin_may_be_given"))
         for name in ("one_message_no_fault", "three_services", "restart_joins", "edcan_sender_stops_after_partial", "totcan_accept_at_lag_1"):
-            check_threads(tally, program, root / f"scenarios/{name}.toml")
+            check_threads(tally, program, scenarios.place_of(root, name))

@@ -125,7 +125,8 @@ def row_of(call, edited):
         said = said.replace(f"`{name}`", text)
     more = ", ".join(italic[it] for it in edited if it not in named)
     shown = "; ".join(it for it in (said, more) if it)
-    cells = [f"`{call.call}`", call.part("Promise") or "", answers, clauses, shown]
+    promise = call.part("Promise") or ""
+    cells = [f"`{call.call}`", promise[:1].upper() + promise[1:], answers, clauses, shown]
     return "| " + " | ".join(it.replace("|", "\\|") for it in cells) + " |"
 
 

@@ -17,6 +17,7 @@ import counts
 import examples
 import program as programs
 import refusals
+import scenario_index
 import scenarios
 import stops
 import variants
@@ -31,6 +32,7 @@ def main():
     tally = Tally()
     subjects = {
         "scenarios": lambda: scenarios.check(ROOT, tally, built),
+        "index": lambda: scenario_index.check(ROOT, tally),
         "calls": lambda: calls.check(ROOT, tally, built),
         "refusals": lambda: refusals.check(tally, built),
         "stops": lambda: stops.check(tally, built),

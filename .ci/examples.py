@@ -42,8 +42,8 @@ def check_block(place, lines, reports, texts, built, tally):
 
 
 def check(root, tally, built):
-    reports = {it.name: it.read_text(encoding="utf-8").splitlines() for it in root.glob("scenarios/*.report")}
-    texts = [tomllib.loads(it.read_text(encoding="utf-8")) for it in root.glob("scenarios/*.toml")]
+    reports = {it.name: it.read_text(encoding="utf-8").splitlines() for it in root.glob("scenarios/**/*.report")}
+    texts = [tomllib.loads(it.read_text(encoding="utf-8")) for it in root.glob("scenarios/**/*.toml")]
     before = tally.passed + tally.failed
     for page in pages(root):
         for at, lines in spans_of(page.read_text(encoding="utf-8"))[1]:

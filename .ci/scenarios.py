@@ -1,6 +1,6 @@
-"""Runs each scenarios/NAME.toml, and compares status and output with scenarios/NAME.report, byte for byte.
+"""Runs each NAME.toml of scenarios/, and compares status and output with the NAME.report beside it, byte for byte.
 
-It is run by `replay`, or by the words of scenarios/NAME.args, one a line, where that file is there."""
+It is run by `replay`, or by the words of NAME.args, one a line, where that file is there."""
 import ast
 import re
 import tomllib
@@ -13,9 +13,19 @@ DONE, REFUSED, BROKEN, OPEN = 0, 3, 9, 10
 JUDGED = re.compile(rb"(?m)^(?:integrity|agreement \w+|order|views|signs|accuracy) (held|broken|open)\b")
 
 
+def files(root, suffix):
+    """The files of scenarios/ with this suffix, by their names, which no two share."""
+    return {it.stem: it for it in sorted(root.glob(f"scenarios/**/*{suffix}"))}
+
+
+def place_of(root, name):
+    """The path of a scenario."""
+    return files(root, ".toml")[name]
+
+
 def words_of(root, name):
     """The arguments by which a scenario is run."""
-    words = root / f"scenarios/{name}.args"
+    words = place_of(root, name).with_suffix(".args")
     return words.read_text(encoding="utf-8").split("\n")[:-1] if words.is_file() else ["replay"]
 
 
@@ -36,21 +46,21 @@ def first_difference(wanted, found):
 
 def check_files(root, tally):
     """Each scenario has a first line that says what it shows; no report and no arguments are without a scenario."""
-    texts = sorted((root / "scenarios").glob("*.toml"))
-    reports = sorted((root / "scenarios").glob("*.report"))
+    texts = list(files(root, ".toml").values())
+    others = [*files(root, ".report").values(), *files(root, ".args").values()]
     tally.check(texts, "scenarios/ has no scenario")
     for it in texts:
-        tally.check(it.read_text(encoding="utf-8").startswith("# "), f"scenarios/{it.name} does not begin with a comment that says what it shows")
-    for it in [*reports, *sorted((root / "scenarios").glob("*.args"))]:
-        tally.check(it.with_suffix(".toml") in texts, f"scenarios/{it.name} has no scenario beside it")
+        tally.check(it.read_text(encoding="utf-8").startswith("# "), f"{it.relative_to(root)} does not begin with a comment that says what it shows")
+    for it in others:
+        tally.check(it.with_suffix(".toml") in texts, f"{it.relative_to(root)} has no scenario beside it")
     return {it.stem: it.read_bytes() for it in texts}
 
 
 def reports_of(root, tally, texts):
     reports = {}
     for name in texts:
-        report = root / f"scenarios/{name}.report"
-        if tally.check(report.is_file(), f"scenarios/{name}.toml has no report beside it"):
+        report = place_of(root, name).with_suffix(".report")
+        if tally.check(report.is_file(), f"{name}.toml has no report beside it"):
             reports[name] = report.read_bytes()
     return reports
 
@@ -58,7 +68,7 @@ def reports_of(root, tally, texts):
 def check_runs(root, tally, program, texts, reports):
     for name, report in reports.items():
         status, output, error = programs.call(program, words_of(root, name), texts[name])
-        place, wanted = f"scenarios/{name}.toml by {program.name}", wanted_status(report)
+        place, wanted = f"{name}.toml by {program.name}", wanted_status(report)
         tally.check(status == wanted, f"{place} ends with status {status}, and not {wanted}; it says {error!r}")
         tally.check(output == report, f"{place} does not give its report: {first_difference(report, output)}")
         tally.check(not error, f"{place}: standard error has {error!r}")
@@ -70,8 +80,8 @@ def check_tries(root, tally, texts, reports):
     for name, report in reports.items():
         status, is_wanted = found.get(name, (None, False))
         wanted = wanted_status(report)
-        tally.check(status == wanted, f"scenarios/{name}.toml ends with status {status}, and not {wanted}")
-        tally.check(is_wanted, f"scenarios/{name}.toml does not give its report")
+        tally.check(status == wanted, f"{name}.toml ends with status {status}, and not {wanted}")
+        tally.check(is_wanted, f"{name}.toml does not give its report")
 
 
 def check_names(root, tally, texts):
@@ -83,7 +93,7 @@ def check_names(root, tally, texts):
             if name in texts:
                 text = ast.literal_eval(f'""{literal}""')
                 is_same = tomllib.loads(text) == tomllib.loads(texts[name].decode())
-                tally.check(is_same, f"{file.relative_to(root)}: the test {name} runs another text than scenarios/{name}.toml")
+                tally.check(is_same, f"{file.relative_to(root)}: the test {name} runs another text than {name}.toml")
 
 
 def check(root, tally, built):

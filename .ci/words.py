@@ -56,14 +56,14 @@ class Vocabulary:
     def __init__(self, root):
         self.root = root
         parts = ["crates/*/src/**/*.rt", "crates/*/specs/**/*.antt", "crates/*/proofs/**/*.antt"]
-        others = ["crates.txt", "HANDLES", "scenarios/*.toml", "scenarios/*.report", "crates/*_trials/stdin", ".ci/*.py", "benches/*.py", "tools/**/*.py"]
+        others = ["crates.txt", "HANDLES", "scenarios/**/*.toml", "scenarios/**/*.report", "crates/*_trials/stdin", ".ci/*.py", "benches/*.py", "tools/**/*.py"]
         self.code = {it: set(re.findall(WORD, code_of(it))) for part in [*parts, *others] for it in root.glob(part) if it.is_file()}
         files = [it for it in self.code if it.suffix in (".rt", ".antt")]
         self.members = {it for file in files if file.suffix == ".rt" for it in self.members_of(file)}
         # files and folders name modules
         names = {part for it in files for part in it.relative_to(root / "crates").with_suffix("").parts}
         at_top = {it.stem for it in root.iterdir()}
-        others = {it.stem for place in ("crates/*/must-fail/*.edit", "scenarios/*.toml") for it in root.glob(place)}
+        others = {it.stem for place in ("crates/*/must-fail/*.edit", "scenarios/**/*.toml") for it in root.glob(place)}
         self.words = set().union(*self.code.values(), names, at_top, others)
 
     def has(self, word):

@@ -107,7 +107,7 @@ def try_changed(tried, texts, count, seed):
 
 
 def main():
-    texts = [it.read_bytes() for it in sorted((TOP / "scenarios").glob("*.toml"))]
+    texts = [it.read_bytes() for it in sorted((TOP / "scenarios").rglob("*.toml"))]
     tried = Tried(program_of(sys.argv[1:2]))
     count, seed = int(sys.argv[2]) if len(sys.argv) > 2 else 100_000, sys.argv[3] if len(sys.argv) > 3 else "1"
     for text in texts:

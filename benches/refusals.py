@@ -105,7 +105,7 @@ class Refusals:
 
 def try_streams(refusals, long_text):
     """Standard streams that are closed, full, or given up by who reads."""
-    program, text = refusals.program, (TOP / "scenarios/one_message_no_fault.toml").read_bytes()
+    program, text = refusals.program, next((TOP / "scenarios").rglob("one_message_no_fault.toml")).read_bytes()
     readers = [["replay"], ["run"], ["check"], ["watch", "0"]]
     commands = [(words, text) for words in readers] + [(["storm", "7"], b""), (["--help"], b""), (["--version"], b"")]
 
@@ -160,7 +160,7 @@ def long_scenario():
 
 
 def main():
-    scenarios = {it.stem: it.read_bytes() for it in sorted((TOP / "scenarios").glob("*.toml"))}
+    scenarios = {it.stem: it.read_bytes() for it in sorted((TOP / "scenarios").rglob("*.toml"))}
     long_text = long_scenario()
     with tempfile.TemporaryDirectory() as folder:
         faults = f"{folder}/faults.so"
