@@ -110,6 +110,25 @@ verdict = "silent"
 reject = [0]
 """
 
+# Node 2 only rejects, which node 1 can do.
+THREE_NODES = """format = 1
+nodes = 3
+slots = 6
+[[send]]
+slot = 0
+node = 0
+service = "tot"
+[[send]]
+slot = 0
+node = 1
+service = "tot"
+[[fault]]
+slot = 1
+verdict = "silent"
+reject = [2]
+"""
+
+
 class StandIn:
     def __init__(self, root, folder):
         self.path, self.log, held = folder / "canely", folder / "log", folder / "held"
@@ -225,6 +244,14 @@ def check_damaged(root, tally, stand_in, folder):
     tally.check(ended == 5 and said.splitlines()[-1] == wanted and said.count("\n") == 2, f"sweep.py run without a case ends with {ended}, {said!r}")
 
 
+def check_journal(root, tally, stand_in, folder):
+    """Of a scenario with a journal it is said that cases can be refused."""
+    text = 'journal = ["."]\n' + SMALL
+    found = tool(root, SWEEP, "faults", "-", str(folder), "--program", str(stand_in.path), stdin=text.encode())
+    said = f" cases in {folder}\nthe scenario has a journal: a case whose run it does not fit is refused\n"
+    tally.check(found[0] == 0 and found[1].decode().endswith(said), f"sweep.py faults of a scenario with a journal: {found}")
+
+
 def check_seeds(root, tally, folder):
     """Scenarios drawn from numbers: the same again from the same number, and of the shapes that were given."""
     calls = [("a", "0", "30"), ("b", "10", "5")]
@@ -306,6 +333,9 @@ def check_with_program(root, tally, program, folder):
     lines = wrote.decode().splitlines()
     is_small = ended == 0 and "nodes = 2" in lines and lines.count("[[send]]") == lines.count("[[fault]]") == 1
     tally.check(is_small, f"shrink.py with {program.name}: {ended} {said} {lines}")
+    ended, wrote, said = tool(root, SHRINK, *words, stdin=THREE_NODES.encode())
+    lines = wrote.decode().splitlines()
+    tally.check(ended == 0 and {"nodes = 2", "slots = 4", "reject = [1]"} <= set(lines), f"shrink.py leaves a node that only rejects: {said} {lines}")
 
 
 def ends(root, stand_in, folder):
@@ -350,6 +380,7 @@ def check(root, tally, built):
         stand_in = StandIn(root, folder)
         check_sweep(root, tally, stand_in, folder / "faults")
         check_damaged(root, tally, stand_in, folder / "damaged")
+        check_journal(root, tally, stand_in, folder / "journal")
         check_seeds(root, tally, folder / "seeds")
         check_shrink(root, tally, stand_in, folder)
         check_ends(root, tally, stand_in, folder / "faults")

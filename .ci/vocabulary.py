@@ -102,6 +102,17 @@ def number_of(text):
     return int(text.replace("_", ""))
 
 
+def check_colours(root, words, tally):
+    """Each class has a colour, and the viewer has those of the pictures."""
+    from lib import marks
+
+    page = (root / "tools/viewer.html").read_text(encoding="utf-8")
+    classes = [it["name"] for it in words["classes"]]
+    tally.check(set(marks.COLOURS) == set(marks.INKS) == set(classes), "tools/lib/marks.py has not a colour of each class")
+    others = [f'{name}: "{colour}"' for name, colour in marks.COLOURS.items() if f'{name}: "{colour}"' not in page]
+    tally.check(not others, f"tools/viewer.html does not have the colours {', '.join(others)}")
+
+
 def check_names(root, words, tally):
     """The words are those of cany_text, the classes in the order of cany_base."""
     names = source(root, "cany_text/src/names.rt")
@@ -142,6 +153,10 @@ def check_limits(root, words, tally):
         found = {key: value(by_format(text, function)[variant]) for key, text, function in functions}
         found["number_shift"] = int(re.search(rf"(?m)^layout {variant} = .*number_shift = (\d+);", layout)[1])
         tally.check(words["formats"][number] == found, f"{FILE}: format {number} has {found} in cany_base")
+    bytes_of_payload = len(re.findall(r"(?m)^    pub b\d: u8,$", source(root, "cany_base/src/payload.rt")))
+    tally.check(words["limits"]["payload_bytes"] == bytes_of_payload, f"{FILE}: a payload has {bytes_of_payload} bytes in cany_base")
+    least = re.search(r"KeyName::Nodes, (\d+),", source(root, "cany_scenario/src/params.rt"))
+    tally.check(least and words["limits"]["least_nodes"] == int(least[1]), f"{FILE}: least_nodes is not that of cany_scenario")
 
 
 def check_help(words, program, tally):
@@ -167,6 +182,7 @@ def check_help(words, program, tally):
 def check(root, tally, built):
     words = words_of(root)
     check_copies(root, tally)
+    check_colours(root, words, tally)
     check_names(root, words, tally)
     check_classes(root, words, tally)
     check_limits(root, words, tally)

@@ -60,6 +60,17 @@ def smaller_sets(scenario):
                 yield with_entry(scenario, "fault", place, {**others, **({name: left} if left else {})})
 
 
+def lower_sets(scenario):
+    """What a node does in a fault one of a lower number does, so that the node itself may go."""
+    for place, rule in enumerate(scenario.get("fault", [])):
+        for name in ("reject", "stop"):
+            nodes = rule.get(name, [])
+            for node in nodes:
+                others = [it for it in nodes if it != node]
+                lower = (it for it in range(node) if it not in others)
+                yield from (with_entry(scenario, "fault", place, {**rule, name: sorted([*others, it])}) for it in lower)
+
+
 def without_node(scenario, node):
     """The nodes above have numbers one less. None where an entry is of the node itself."""
     less = lambda it: it - 1 if it > node else it
@@ -128,4 +139,4 @@ def fewer_keys(scenario):
 
 
 # What is tried, in this order, again and again until nothing helps.
-WAYS = (fewer_keys, fewer_entries, fewer_slots, fewer_nodes, lower_origins, smaller_sets, earlier_slots, shorter_payloads)
+WAYS = (fewer_keys, fewer_entries, fewer_slots, fewer_nodes, lower_origins, smaller_sets, lower_sets, earlier_slots, shorter_payloads)
