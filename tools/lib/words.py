@@ -11,8 +11,9 @@ def classes_with(key, value=True):
     return tuple(it["name"] for it in WORDS["classes"] if it[key] == value)
 
 
-# The classes of frames, in the order in which they win arbitration; the others have no data.
+# The classes of frames, in the order in which they win arbitration.
 CLASSES = tuple(it["name"] for it in WORDS["classes"])
+# Those whose frames are remote frames, without data.
 REMOTE = classes_with("remote")
 # Those whose frames tell the incarnation of their sender.
 WITH_INCARNATION = classes_with("incarnation")
