@@ -2,7 +2,7 @@
 ghost use Rattle.std.specs.Prelude.{◌≡◌, ◌<◌, ◌≤◌, ◌+◌, [], map, IfOk, IfErr, IfSome, IfNone, vec_len, vec_capacity};
 ghost use Rattle.cany_base.specs.Limits.{most_nodes};
 ghost use Rattle.cany_crew.specs.Ending.{IsEnding};
-ghost use Rattle.cany_crew.specs.Gates.{HasRefused, IsOutcome, NoneFell};
+ghost use Rattle.cany_crew.specs.Gates.{IsHeldAt, IsOutcome, NoneFell};
 ghost use Rattle.cany_crew.specs.Held.{IfHeld, IfMemory, world_of};
 ghost use Rattle.cany_model.specs.Runs.Run.{IsLegal, IsWhole};
 ghost use Rattle.cany_yard.specs.Seats.{AreFirstSeats};
@@ -59,7 +59,7 @@ fn run_yard<R: Threads + Wait + Sync, L: Course + Send + Sync, B: Ledger + Send 
     ensures scenario { result.0.scenario ≡ L.scenario }
     ensures ended { IfNone result.1 (IsLegal result.0.scenario result.0.journal × IsWhole result.0.scenario result.0.journal) }
     ensures node { IfSome result.1 (λ found. found.0 < L.scenario.params.nodes) }
-    ensures outcome { IsOutcome (map G.refusals gates.old.items) (map G.refusals gates.new.items) result.1 }
+    ensures outcome { IsOutcome (map G.refusals gates.old.items) (map G.refusals gates.new.items) (map G.refused_at gates.new.items) result.1 }
 {
     let signals = Signals::new();
     let work = Work {
@@ -92,7 +92,7 @@ fn run_as<R: Threads + Wait + Sync, L: Course + Send + Sync, B: Ledger + Send + 
     requires course { world.scenario ≡ L.scenario }
     requires turns { (turns.name ≡ L.name) × (turns.parts ≡ L.parts) × (turns.parts ≡ world.scenario.params.nodes) }
     requires slots { (slots.name ≡ B.name) × (slots.parts ≡ B.parts) × (slots.parts ≡ 1) }
-    ensures { IsEnding (map G.refusals gates.old.items) (map G.refusals gates.new.items) world result.0 result.1 }
+    ensures { IsEnding (map G.refusals gates.old.items) (map G.refusals gates.new.items) (map G.refused_at gates.new.items) world result.0 result.1 }
 {
     let nodes = nodes_of(world.scenario());
     let most_slots = world.scenario().params().slots;
@@ -119,7 +119,7 @@ pub(crate) fn run_crew<R: Threads + Wait + Sync, G: Gate>(
 ) -> (World, Result<Option<(NodeId, Slot)>, Memory>)
     requires fresh { world.journal ≡ [] }
     requires gates { world.scenario.params.nodes ≤ vec_len gates.old }
-    ensures { IsEnding (map G.refusals gates.old.items) (map G.refusals gates.new.items) world result.0 result.1 }
+    ensures { IsEnding (map G.refusals gates.old.items) (map G.refusals gates.new.items) (map G.refused_at gates.new.items) world result.0 result.1 }
 {
     let turns = Blank::new(u64::from(nodes_of(world.scenario())));
     run_as::<R, Brand, Brand, G>(rt, alloc, turns, Blank::new(1), world, gates)
@@ -154,8 +154,9 @@ pub fn crew_run<R: Threads + Wait + Sync, G: Gate>(
     // No gate's count rose in a run that ended, and that of the node named, one of the bus, rose in
     // one that is held.
     ensures passed { IfOk result (λ _. map G.refusals gates.new.items ≡ map G.refusals gates.old.items) }
-    ensures node { IfErr result (λ fault. IfHeld fault (λ node. node < world.scenario.params.nodes)) }
-    ensures held { IfErr result (λ fault. IfHeld fault (λ node. HasRefused node (map G.refusals gates.old.items) (map G.refusals gates.new.items))) }
+    ensures node { IfErr result (λ fault. IfHeld fault (λ node _. node < world.scenario.params.nodes)) }
+    ensures held { IfErr result (λ fault. IfHeld fault (λ node slot.
+        IsHeldAt node slot (map G.refusals gates.old.items) (map G.refusals gates.new.items) (map G.refused_at gates.new.items))) }
     ensures count { NoneFell (map G.refusals gates.old.items) (map G.refusals gates.new.items) }
 
     // What is handed back.
