@@ -26,8 +26,7 @@ use std::thread::Threads;
 /// Why a run did not end. The world is handed back.
 #[derive(Drop)]
 pub enum CrewFault {
-    /// The gate of the node refused the turn that was to read this slot or, after a restart, a
-    /// later one.
+    /// The gate of the node refused the pass for this slot. No lesser node's count rose.
     Held {
         world: World,
         node: NodeId,
@@ -129,15 +128,19 @@ pub(crate) fn run_crew<R: Threads + Wait + Sync, G: Gate>(
 /// gate at place i is that of node i, and after the call the counts of the gates stand at their old
 /// places.
 ///
-/// The worker of a node asks its gate before the turn of each slot, outside the lock. After a
-/// refusal each worker ends at its next step, and `Held` names the least node whose pass was
-/// refused. A worker that has waited two seconds for a step of another ends too, as it may while a
-/// gate takes longer to answer. The steps that the workers have left are made after them, and ask
-/// the gates too. The call may wait for its threads, which may wait for one another at the lock.
+/// `Held` names the least node whose gate's count rose, and the slot of the last pass that this
+/// gate refused.
+///
+/// How the threads go on is no part of the contract. The worker of a node asks its gate before the
+/// turn of each slot, outside the lock. After a refusal each worker ends at its next step. A worker
+/// that has waited two seconds for a step of another ends too, as it may while a gate takes longer
+/// to answer. The steps that the workers have left are made after them, and ask the gates too. The
+/// call may wait for its threads, which may wait for one another at the lock.
 ///
 /// # Errors
 ///
-/// `Held` only where the gate of that node refused a pass, and `Memory` for want of memory.
+/// `Held` only where the gate of that node refused the pass for that slot, and `Memory` where there
+/// was no memory.
 pub fn crew_run<R: Threads + Wait + Sync, G: Gate>(
     rt: &R,
     alloc: Global,
@@ -151,8 +154,8 @@ pub fn crew_run<R: Threads + Wait + Sync, G: Gate>(
     ensures scenario { IfOk result (λ ended. ended.scenario ≡ world.scenario) }
     ensures ended { IfOk result (λ ended. IsLegal ended.scenario ended.journal × IsWhole ended.scenario ended.journal) }
 
-    // No gate's count rose in a run that ended, and that of the node named, one of the bus, rose in
-    // one that is held.
+    // No gate's count rose in a run that ended. In one that is held that of the node named, one of
+    // the bus, rose, the slot is that of the last pass that it refused, and no lesser node's rose.
     ensures passed { IfOk result (λ _. map G.refusals gates.new.items ≡ map G.refusals gates.old.items) }
     ensures node { IfErr result (λ fault. IfHeld fault (λ node _. node < world.scenario.params.nodes)) }
     ensures held { IfErr result (λ fault. IfHeld fault (λ node slot.
