@@ -2,7 +2,7 @@
 use Rattle.std.specs.Prelude.{◌≡◌, ℕ, ◌<◌, ◌≤◌, List, length, Option, Some, None, All, IfNone, IfSome, MatchOption, slice_index, slice_index_or}
 use Rattle.cany_io.specs.Faults.{HasRisen, last_count}
 
--- a gate was asked until it refused the pass for a slot, the last that it refused, or it refused none
+-- a gate was asked until it refused the pass for a slot, and none after it, or it refused none
 abbrev pub CountsRefusal : ℕ → Option ℕ → ℕ → Option ℕ → Type 0
 CountsRefusal old refused new last = (old ≤ new) × MatchOption refused (new ≡ old) (λ slot. HasRisen old new × (last ≡ Some slot))
 
@@ -10,8 +10,8 @@ CountsRefusal old refused new last = (old ≤ new) × MatchOption refused (new �
 abbrev pub HasRefused : ℕ → List ℕ → List ℕ → Type 0
 HasRefused node old new = (node < length new) × HasRisen (slice_index old node) (slice_index new node)
 
--- the gate of this node refused the pass for this slot, the last that it refused, and no gate of a
--- lesser node refused one
+-- the gate of this node refused the pass for this slot, and none after it, and the counts of lesser
+-- nodes are as they were
 pub record IsHeldAt (node slot : ℕ) (old new : List ℕ) (last : List (Option ℕ)) : Type 0 where
   pub refused : HasRefused node old new
   pub slot_is : slice_index_or last node None ≡ Some slot
