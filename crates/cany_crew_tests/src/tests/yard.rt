@@ -13,7 +13,7 @@ use std::test::Fail;
 
 /// What came of seats that were worked by hand.
 #[derive(Drop)]
-struct Worked {
+struct ByHand {
     slot: StepReply,
     turns: [TurnReply; 2],
     /// How many seats a close had that one was missing to, and how many were made.
@@ -29,7 +29,7 @@ fn worked<L: Course, B: Ledger, R: Wait>(
     turns: Blank,
     slots: Blank,
     world: World,
-) -> Option<Worked>
+) -> Option<ByHand>
     requires fresh { world.journal ≡ [] }
     requires three { world.scenario.params.nodes ≡ 3 }
     requires course { world.scenario ≡ L.scenario }
@@ -53,7 +53,7 @@ fn worked<L: Course, B: Ledger, R: Wait>(
     } = yard.close(bus, seats).err()?;
     seats.push(third).ok()?;
     let world = yard.close(bus, seats).ok()?;
-    Some(Worked {
+    Some(ByHand {
         slot,
         turns: [one, zero],
         missed: (have, made),
