@@ -26,9 +26,9 @@ pub enum Outcome {
 ///
 /// Answers: `Idle` exactly where nobody offers.
 ///
-/// Shown by: nothing in the program runs it; its edits show its clauses: `always_idle`,
+/// Shown by: `offers_are_decided`, `levels_over_two_lines`, `always_idle`,
 /// `an_equal_word_is_left_out`, `another_payload_is_sent_too`, `nodes_above_31_are_not_asked`,
-/// `one_sender_of_a_merged_frame`, `rtr_is_forgotten`.
+/// `rtr_is_forgotten`. The program does not run it.
 pub fn arbitrate(offers: &Offers) -> Outcome
     ensures { IsOutcome offers.now result }
 {

@@ -31,7 +31,7 @@ impl Offers {
     ///
     /// Promise: no node offers, in the format that is given.
     ///
-    /// Shown by: nothing in the program runs it; it has no edit.
+    /// Shown by: `offers_are_decided`. The program does not run it.
     pub fn none(format: Format) -> Offers
         ensures format { result.format ≡ format }
         ensures none { (i : ℕ) → offer_at result i ≡ None }
@@ -47,7 +47,7 @@ impl Offers {
     ///
     /// Promise: node `n` offers this frame, and what every other node offers stays.
     ///
-    /// Shown by: nothing in the program runs it; its edit shows its clauses: `first_offer_is_kept`.
+    /// Shown by: `offers_are_decided`, `first_offer_is_kept`. The program does not run it.
     pub fn put(&mut self, n: NodeId, f: Frame)
         requires { FitsFormat self.old.format f }
         ensures format { self.new.format ≡ self.old.format }
@@ -63,7 +63,7 @@ impl Offers {
     ///
     /// Answers: `None` exactly where node `n` offers nothing.
     ///
-    /// Shown by: nothing in the program runs it; it has no edit.
+    /// Shown by: `offers_are_decided`. The program does not run it.
     pub fn get(&self, n: NodeId) -> Option<Frame>
         ensures { result ≡ offer_at self.now n }
     {

@@ -28,6 +28,8 @@ pub const NO_MEMORY: u8 = 6;
 pub const TOO_LONG: u8 = 7;
 
 /// The statuses of code are those of the definitions.
+///
+/// Promise: each status of this module is the number of the definition with its name.
 pub fn are_those_of_the_definitions()
     ensures done { DONE ≡ status.done }
     ensures other_words { OTHER_WORDS ≡ status.other_words }

@@ -32,8 +32,8 @@ pub(crate) fn has_whole(lines: (Line, Line), nodes: u8) -> bool
 /// Answers: `Idle` exactly where nobody offers a frame. `Parted` exactly where a frame is offered
 /// and no line is whole. Else `Joined`.
 ///
-/// Shown by: nothing in the program runs it; its edits show its clauses:
-/// `one_line_down_loses_the_frame`, `a_split_of_all_nodes_parts_them`.
+/// Shown by: `levels_over_two_lines`, `one_line_down_loses_the_frame`,
+/// `a_split_of_all_nodes_parts_them`. The program does not run it.
 pub fn levels(offers: &Offers, lines: (Line, Line), nodes: u8) -> MediaOutcome
     ensures { IsMediaOutcome offers.now lines nodes result }
 {
