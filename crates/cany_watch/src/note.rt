@@ -1,4 +1,4 @@
-ghost use Rattle.std.specs.Prelude.{◌≡◌, ◌⊎◌, ◌++◌, ◌∷◌, [], length, MatchBool, if◌then◌else◌};
+ghost use Rattle.std.specs.Prelude.{◌≡◌, ◌⊎◌, ◌++◌, ◌∷◌, [], length, nat_le, MatchBool, if◌then◌else◌};
 ghost use mathlib.Core.List.{IsPrefix};
 ghost use Rattle.cany_watch.specs.Book.{head_of};
 ghost use Rattle.cany_watch.specs.Notes.{Follows};
@@ -64,11 +64,12 @@ impl Note {
         }
     }
 
-    /// Whether the other follows this one, or is the shorter. Of any two notes of one node one
-    /// follows the other.
+    /// Whether the other has as many entries as this one, or more: then it follows this one, and
+    /// otherwise this one follows it.
     pub fn is_followed_by(&self, other: &Note) -> bool
         requires { other.now.book ≡ self.now.book }
-        ensures { MatchBool result (Follows self.now other.now) (Follows other.now self.now) }
+        ensures longer { result ≡ nat_le (length self.now.entries) (length other.now.entries) }
+        ensures follows { MatchBool result (Follows self.now other.now) (Follows other.now self.now) }
     {
         let mut both = self.seen.again();
         both.learn(&other.seen);
