@@ -6,7 +6,7 @@ usage: benches/readers.py [PROGRAM] [RUNS]
 PROGRAM is the built program, by default crates/canely/out/canely, which `rt run` in crates/canely leaves there. RUNS is 1000 where
 absent. Each run has 3 to 64 nodes, messages of all three protocols, and nodes that stop and start again, some of the messages early
 enough for their first incarnations and some late enough for the second; the node is one of those that start again, or any other,
-in turn. At the end the script prints the seconds of both commands.
+in turn. At the end the script prints the seconds of both commands, of these runs and of the largest run of format two.
 """
 
 import random
@@ -14,6 +14,8 @@ import subprocess
 import sys
 import time
 from pathlib import Path
+
+import world
 
 # How many nodes the runs have, in turn: one in twenty has as many as there can be.
 SIZES = [3, 4, 5, 6, 8, 10, 12, 16, 20, 3, 4, 5, 6, 8, 10, 12, 16, 24, 32, 64]
@@ -48,6 +50,18 @@ def scenario(number):
     return "\n".join(parts).encode(), nodes, restarted
 
 
+def largest():
+    """The largest run of format two: 64 nodes, 400,000 slots and 20,000 messages, and each node stops once and starts again."""
+    slots, sends = 400000, 20000
+    text = world.scenario(64, slots, sends, ["ed", "rel", "tot"], ["cycle = 32767"])
+    parts = [text.replace("format = 1", "format = 2", 1)]
+    for node in range(64):
+        slot = (node + 1) * (slots // 70)
+        parts.append(f"[[fault]]\nslot = {slot}\nstop = [{node}]\n")
+        parts.append(f"[[restart]]\nslot = {slot + 20}\nnode = {node}\n")
+    return "\n".join(parts).encode()
+
+
 def entries_of(report, node):
     """The lines of the entries that a report has of all incarnations of a node."""
     found, is_inside = [], False
@@ -68,6 +82,19 @@ def call(program, words, text):
     return ended.returncode, ended.stdout, time.perf_counter() - begin
 
 
+def watched(program, text, node):
+    """How many entries the line of a node has, and the seconds of `watch` and of `replay`."""
+    status, report, replaying = call(program, ["replay"], text)
+    if status != 0:
+        sys.exit(f"replay ends with status {status}: {report[:200]!r}")
+    lines = entries_of(report, node)
+    status, found, watching = call(program, ["watch", str(node)], text)
+    wanted = "".join(f"{line}\n" for line in ["canely watch 1", f"node {node}", *lines, "end"])
+    if (status, found) != (0, wanted.encode()):
+        sys.exit(f"watch {node} ends with status {status} and writes another text than the report has")
+    return len(lines), watching, replaying
+
+
 def main():
     program = Path(sys.argv[1] if len(sys.argv) > 1 else "crates/canely/out/canely").resolve()
     runs = int(sys.argv[2]) if len(sys.argv) > 2 else 1000
@@ -75,19 +102,12 @@ def main():
     for number in range(runs):
         text, nodes, restarted = scenario(number)
         node = number % nodes if number % 3 == 0 else restarted[number % len(restarted)]
-        status, report, seconds = call(program, ["replay"], text)
-        replaying += seconds
-        if status != 0:
-            sys.exit(f"run {number}: replay ends with status {status}: {report[:200]!r}")
-        lines = entries_of(report, node)
-        status, found, seconds = call(program, ["watch", str(node)], text)
-        watching += seconds
-        wanted = "".join(f"{line}\n" for line in ["canely watch 1", f"node {node}", *lines, "end"])
-        if (status, found) != (0, wanted.encode()):
-            sys.exit(f"run {number}: watch {node} ends with status {status} and writes another text than the report has")
-        entries += len(lines)
+        found, watch, replay = watched(program, text, node)
+        entries, watching, replaying = entries + found, watching + watch, replaying + replay
     print(f"{runs} runs of {min(SIZES)} to {max(SIZES)} nodes: {entries} entries, all as in the reports")
     print(f"seconds: {watching:.1f} by watch, {replaying:.1f} by replay")
+    entries, watching, replaying = watched(program, largest(), 1)
+    print(f"largest run: {entries} entries, seconds: {watching:.1f} by watch, {replaying:.1f} by replay")
 
 
 if __name__ == "__main__":

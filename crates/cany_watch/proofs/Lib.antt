@@ -1,5 +1,6 @@
 pub mod Adding
 pub mod Cuts
+pub mod GrowthFacts
 pub mod LineFacts
 pub mod Prefixes
 pub mod PublishFacts

@@ -1,5 +1,5 @@
 -- The line of a node grows with each step, and is the logs of the incarnations by their numbers.
-use Rattle.std.proofs.Common.{◌≡◌, ◌≢◌, ℕ, zero, suc, ◌+◌, ◌-◌, ◌<◌, ◌≤◌, ◌==◌, List, [], ◌∷◌, ◌++◌, length, refl, ap, sym, subst, ◌∙◌, arith, inl, inr, append_assoc}
+use Rattle.std.proofs.Common.{◌≡◌, ◌≢◌, ℕ, zero, suc, ◌+◌, ◌-◌, ◌<◌, ◌≤◌, ◌==◌, ◌⊎◌, List, [], ◌∷◌, ◌++◌, length, length-append, map, drop, refl, ap, sym, subst, ◌∙◌, arith, inl, inr, append_assoc}
 use Rattle.std.specs.Prelude.{true, find, if◌then◌else◌}
 use Rattle.std.specs.List.{AllByRecursion, flat_map, range_with_len}
 use Rattle.std.specs.Option.{option_map_or}
@@ -7,29 +7,33 @@ use Rattle.std.proofs.lemmas.Bool.{cases_eq, cases_Bool, eq-eqb, ne_eqb}
 use Rattle.std.proofs.lemmas.List.{append-nil}
 use mathlib.Core.List.{IsPrefix}
 use Rattle.cany_base.specs.declared.log_entry.LogEntry.{LogEntry}
+use Rattle.cany_base.specs.declared.notice.NoticeKind.{NoticeKind}
 use Rattle.cany_base.specs.declared.slot_note.SlotNote.{SlotNote}
 use Rattle.cany_base.specs.declared.step.Step.{Step}
 use Rattle.cany_base.specs.declared.step.Step.TheVariants as step
 use Rattle.cany_base.specs.Scenario.{ScenarioParts}
-use Rattle.cany_model.specs.Bus.History.{ended_history, history}
+use Rattle.cany_model.specs.Bus.History.{ended_history, given, history, seen}
 use Rattle.cany_model.specs.Bus.Restart.{after_restarts, ended_at, restarted}
 use Rattle.cany_model.specs.Bus.Slot.{FaultScript, after_slot, script, slot_note_of}
 use Rattle.cany_model.specs.Bus.State.{EndedIncarnation, Incarnation, NodeState, RunState, node_at, opening, reads, slots_run}
 use Rattle.cany_model.specs.Rules.Effect.{entered}
-use Rattle.cany_model.specs.Rules.Log.{log_from}
+use Rattle.cany_model.specs.Rules.Log.{log, log_from}
 use Rattle.cany_model.specs.Rules.Turn.{scenario_for, turn_effects}
 use Rattle.cany_model.specs.Runs.Incarnations.{incarnation_of, incarnations, log_of}
 use Rattle.cany_model.specs.Runs.Run.{after_turn, is_done, proceed, reply, run}
 use Rattle.cany_model.proofs.Bus.Restarts.{restarts_or_stays}
 use Rattle.cany_model.proofs.Bus.Seen.{ended_history-present, history-is}
+use Rattle.cany_model.proofs.Promises.EachNode.{restarted_new}
+use Rattle.cany_model.proofs.Rules.IdleBeforeTakingPart.{IsBegun, begun_before}
+use Rattle.cany_model.proofs.Rules.MutedFacts.{turn_muted}
 use Rattle.cany_model.proofs.Runs.Journals.{run_push, step_is}
-use Rattle.cany_model.proofs.Runs.Runs.{IsOrderly, orderly, orderly_slot, orderly_turn, turn_done}
+use Rattle.cany_model.proofs.Runs.Runs.{IsOrderly, orderly, orderly_restarts, orderly_slot, orderly_turn, turn_done}
 use Rattle.cany_model.proofs.Runs.Steps.{MayTurn, after_slot-history, after_slot-trace, after_turn-history, after_turn-other, after_turn-trace, next_notice}
 use Rattle.cany_world.proofs.Endings.{ended_later, ended_past}
 use Rattle.cany_world.proofs.InOrder.{AllInOrder, AreInOrder, in_order, slot_same, turn_same}
 use Rattle.cany_model.specs.declared.reply.StepReply.{StepReply}
 use Rattle.cany_world.specs.World.{WorldParts, state_of}
-use Rattle.cany_watch.specs.Lines.{Longer, line}
+use Rattle.cany_watch.specs.Lines.{Longer, line, line_of, nodes_of}
 use Rattle.cany_watch.proofs.Prefixes.{prefix_self, prefix_trans}
 
 -- ---- the logs of the incarnations as a list, the newest first
@@ -76,36 +80,46 @@ slot_line scenario rules s i below o order =
 
 -- ---- the restarts at its end
 
-restarts_line : (scenario : ScenarioParts) (s : RunState) (i : ℕ) → 0 < length s.trace → (node_at s.nodes i).unread ≤ length s.trace
-    → IsPrefix (listed scenario s i) (listed scenario (after_restarts scenario s) i)
+-- a node that has only begun has entered nothing
+begun_log : (scenario : ScenarioParts) (i : ℕ) (past : List NoticeKind) → IsBegun scenario past → log_from scenario i past ≡ []
+unfolding log_from entered
+begun_log scenario i [] begun = refl
+begun_log scenario i (e ∷ before) begun = rw (begun_log scenario i before (begun_before scenario e before begun), turn_muted scenario i (e ∷ before) begun) refl
+
+-- a node that starts again has entered nothing since, and its earlier logs stay
+restarts_line : (scenario : ScenarioParts) (s : RunState) (i : ℕ) → IsOrderly scenario.params.nodes s → 0 < length s.trace
+    → listed scenario (after_restarts scenario s) i ≡ listed scenario s i
 unfolding logs_of after_restarts
-restarts_line scenario s i some short = elim (restarts_or_stays scenario s i) [
+restarts_line scenario s i o some = elim (restarts_or_stays scenario s i) [
   | inl new ↦
       let slot = slots_run s - 1 in
       let node = node_at s.nodes i in
-      let past = ended_past i slot s.trace node (omega (arith, some)) short ∙ sym (history-is i s) in
+      let to : RunState = after_restarts scenario s in
+      let begun : NodeState = node_at to.nodes i in
+      let past = ended_past i slot s.trace node (omega (arith, some)) (o.unread i) ∙ sym (history-is i s) in
       let earlier : listed scenario s i ≡ logs_of scenario i s.trace (ended_at slot node ∷ node.ended) =
-      line_is scenario s i short ∙ ap (λ h. logs_of scenario i s.trace node.ended ++ log_from (scenario_for scenario node.present) i h) (sym past) in
-      let is : listed scenario (after_restarts scenario s) i
-      ≡ logs_of scenario i s.trace (record { incarnation = (restarted scenario.params slot node).present; next = length s.trace - 0; stopped = (restarted scenario.params slot node).stopped } ∷ ended_at slot node ∷ node.ended) =
-      ap (λ (n : NodeState). logs_of scenario i s.trace (record { incarnation = n.present; next = length s.trace - n.unread; stopped = n.stopped } ∷ n.ended)) new.is in (
-        log_from (scenario_for scenario (restarted scenario.params slot node).present) i
-            (ended_history i s.trace (record { incarnation = (restarted scenario.params slot node).present; next = length s.trace - 0; stopped = (restarted scenario.params slot node).stopped })),
-        ap (λ logs. logs ++ log_from (scenario_for scenario (restarted scenario.params slot node).present) i
-            (ended_history i s.trace (record { incarnation = (restarted scenario.params slot node).present; next = length s.trace - 0; stopped = (restarted scenario.params slot node).stopped }))) earlier
-            ∙ sym is,
-      )
-  | inr same ↦ (
-    [],
-    append-nil (listed scenario s i)
-        ∙ sym (ap (λ (n : NodeState). logs_of scenario i s.trace (record { incarnation = n.present; next = length s.trace - n.unread; stopped = n.stopped } ∷ n.ended)) same),
-  )
+      line_is scenario s i (o.unread i) ∙ ap (λ h. logs_of scenario i s.trace node.ended ++ log_from (scenario_for scenario node.present) i h) (sym past) in
+      let none : log_from (scenario_for scenario begun.present) i (history i to) ≡ [] =
+      ap (log_from (scenario_for scenario begun.present) i) (history-is i to)
+      ∙ begun_log (scenario_for scenario begun.present) i (map (given i) (drop begun.unread (seen begun.present s.trace))) (restarted_new scenario s i o some new).past in
+      line_is scenario to i ((orderly_restarts scenario.params.nodes scenario s o).unread i)
+      ∙ ap (λ l. logs_of scenario i s.trace begun.ended ++ l) none
+      ∙ append-nil (logs_of scenario i s.trace begun.ended)
+      ∙ ap (λ (n : NodeState). logs_of scenario i s.trace n.ended) new.is ∙ sym earlier
+  | inr same ↦
+      ap (λ (n : NodeState). logs_of scenario i s.trace (record { incarnation = n.present; next = length s.trace - n.unread; stopped = n.stopped } ∷ n.ended)) same
 ]
 
 -- ---- a turn
 
+-- what the turn of a node makes longer: its line by what its log gets
+record TurnAdds (scenario : ScenarioParts) (k : ℕ) (s : RunState) : Type 0 where
+  new : List LogEntry
+  line : listed scenario s k ++ new ≡ listed scenario (after_turn scenario k s) k
+  log : log scenario s k ++ new ≡ log scenario (after_turn scenario k s) k
+
 turn_line : (scenario : ScenarioParts) (k : ℕ) (s : RunState) → MayTurn s k → (node_at s.nodes k).unread ≤ length s.trace → (node_at (after_turn scenario k s).nodes k).unread ≤ length s.trace
-    → IsPrefix (listed scenario s k) (listed scenario (after_turn scenario k s) k)
+    → TurnAdds scenario k s
 unfolding log_from
 turn_line scenario k s may short short' =
     let after : RunState = after_turn scenario k s in
@@ -113,15 +127,19 @@ turn_line scenario k s may short short' =
     let earlier = logs_of scenario k s.trace (node_at s.nodes k).ended in
     let own = scenario_for scenario (node_at s.nodes k).present in
     let new = entered (turn_effects own k (next_notice s k ∷ history k s)) in
+    let log_is : log_from (scenario_for scenario (node_at after.nodes k).present) k (history k after) ≡ log_from own k (history k s) ++ new =
+    ap (λ past. log_from (scenario_for scenario (node_at after.nodes k).present) k past) (after_turn-history scenario k s may short)
+    ∙ ap (λ (inc : Incarnation). log_from (scenario_for scenario inc) k (next_notice s k ∷ history k s)) same.present in
     let is : listed scenario after k ≡ earlier ++ (log_from own k (history k s) ++ new) =
     line_is scenario after k (subst (λ trace. (node_at after.nodes k).unread ≤ length trace) (sym (after_turn-trace scenario k s)) short')
-    ∙ ap (λ past. logs_of scenario k after.trace (node_at after.nodes k).ended ++ log_from (scenario_for scenario (node_at after.nodes k).present) k past) (after_turn-history scenario k s may short)
-    ∙ ap (λ (inc : Incarnation). logs_of scenario k after.trace (node_at after.nodes k).ended ++ log_from (scenario_for scenario inc) k (next_notice s k ∷ history k s)) same.present
-    ∙ ap (λ ended. logs_of scenario k after.trace ended ++ log_from own k (next_notice s k ∷ history k s)) same.ended
-    ∙ ap (λ trace. logs_of scenario k trace (node_at s.nodes k).ended ++ log_from own k (next_notice s k ∷ history k s)) (after_turn-trace scenario k s) in (
-      new,
-      ap (λ l. l ++ new) (line_is scenario s k short) ∙ append_assoc earlier (log_from own k (history k s)) new ∙ sym is,
-    )
+    ∙ ap (λ l. logs_of scenario k after.trace (node_at after.nodes k).ended ++ l) log_is
+    ∙ ap (λ ended. logs_of scenario k after.trace ended ++ (log_from own k (history k s) ++ new)) same.ended
+    ∙ ap (λ trace. logs_of scenario k trace (node_at s.nodes k).ended ++ (log_from own k (history k s) ++ new)) (after_turn-trace scenario k s) in
+    record {
+      new = new;
+      line = ap (λ l. l ++ new) (line_is scenario s k short) ∙ append_assoc earlier (log_from own k (history k s)) new ∙ sym is;
+      log = sym log_is;
+    }
 
 -- of another node it changes nothing
 other_listed : (scenario : ScenarioParts) (k : ℕ) (s : RunState) (i : ℕ) → i ≢ k → listed scenario (after_turn scenario k s) i ≡ listed scenario s i
@@ -131,23 +149,59 @@ other_listed scenario k s i other =
 
 -- ---- a step that is done
 
-proceed_line : (scenario : ScenarioParts) (s : RunState) (made : Step) (i : ℕ) → i < length s.nodes → IsOrderly scenario.params.nodes s → AllInOrder s → is_done (reply scenario s made) ≡ true
-    → IsPrefix (listed scenario s i) (listed scenario (proceed scenario s made) i)
-unfolding proceed after_turn
-proceed_line scenario s step.Slot i below o order done =
+slot_listed : (scenario : ScenarioParts) (s : RunState) (i : ℕ) → i < length s.nodes → IsOrderly scenario.params.nodes s → AllInOrder s
+    → listed scenario (proceed scenario s step.Slot) i ≡ listed scenario s i
+unfolding proceed
+slot_listed scenario s i below o order =
     let rules : FaultScript = script scenario.rules in
     let after : RunState = after_slot rules s in
     let some : 0 < length after.trace = subst (λ trace. 0 < length trace) (sym (after_slot-trace rules s)) (omega arith) in
-    subst (λ l. IsPrefix l (listed scenario (after_restarts scenario after) i)) (slot_line scenario rules s i below o order)
-    (restarts_line scenario after i some ((orderly_slot scenario.params.nodes rules s o).unread i))
-proceed_line scenario s (step.Turn k) i below o order done =
+    restarts_line scenario after i (orderly_slot scenario.params.nodes rules s o) some ∙ slot_line scenario rules s i below o order
+
+turn_listed : (scenario : ScenarioParts) (k : ℕ) (s : RunState) → IsOrderly scenario.params.nodes s → is_done (reply scenario s (step.Turn k)) ≡ true → TurnAdds scenario k s
+unfolding after_turn
+turn_listed scenario k s o done =
     let may = turn_done scenario s k o.count done in
+    turn_line scenario k s may (o.unread k) ((orderly_turn scenario.params.nodes scenario k s may o).unread k)
+
+proceed_line : (scenario : ScenarioParts) (s : RunState) (made : Step) (i : ℕ) → i < length s.nodes → IsOrderly scenario.params.nodes s → AllInOrder s → is_done (reply scenario s made) ≡ true
+    → IsPrefix (listed scenario s i) (listed scenario (proceed scenario s made) i)
+unfolding proceed
+proceed_line scenario s step.Slot i below o order done =
+    subst (IsPrefix (listed scenario s i)) (sym (slot_listed scenario s i below o order)) (prefix_self (listed scenario s i))
+proceed_line scenario s (step.Turn k) i below o order done =
     elim (cases_eq i k) [
       | inl same ↦
-          subst (λ n. IsPrefix (listed scenario s n) (listed scenario (after_turn scenario k s) n)) (sym same)
-          (turn_line scenario k s may (o.unread k) ((orderly_turn scenario.params.nodes scenario k s may o).unread k))
+          let adds = turn_listed scenario k s o done in
+          subst (λ n. IsPrefix (listed scenario s n) (listed scenario (after_turn scenario k s) n)) (sym same) (adds.new, adds.line)
       | inr other ↦ subst (IsPrefix (listed scenario s i)) (sym (other_listed scenario k s i other)) (prefix_self (listed scenario s i))
     ]
+
+-- a node that the step leaves: by a slot each, by a turn each other, and that one too where its log
+-- got no entry
+abbrev pub Leaves : Step → ScenarioParts → RunState → RunState → ℕ → Type 0
+Leaves step.Slot scenario s s' i = Unit {0}
+Leaves (step.Turn k) scenario s s' i = (i ≢ k) ⊎ (length (log scenario s' i) ≡ length (log scenario s i))
+
+nothing_more : {A : Type 0} (xs new ys : List A) → xs ++ new ≡ ys → length ys ≡ length xs → new ≡ []
+nothing_more xs [] ys is same = refl
+nothing_more xs (x ∷ new) ys is same = absurd (omega (arith, same, ap length is, length-append xs (x ∷ new)))
+
+proceed_left : (scenario : ScenarioParts) (s : RunState) (made : Step) (i : ℕ) → i < length s.nodes → IsOrderly scenario.params.nodes s → AllInOrder s → is_done (reply scenario s made) ≡ true
+    → Leaves made scenario s (proceed scenario s made) i → listed scenario (proceed scenario s made) i ≡ listed scenario s i
+unfolding proceed
+proceed_left scenario s step.Slot i below o order done left = slot_listed scenario s i below o order
+proceed_left scenario s (step.Turn k) i below o order done (inl other) = other_listed scenario k s i other
+proceed_left scenario s (step.Turn k) i below o order done (inr none) = elim (cases_eq i k) [
+  | inl same ↦
+      let adds = turn_listed scenario k s o done in
+      let none' : length (log scenario (after_turn scenario k s) k) ≡ length (log scenario s k) =
+      subst (λ n. length (log scenario (after_turn scenario k s) n) ≡ length (log scenario s n)) same none in
+      let new : adds.new ≡ [] = nothing_more (log scenario s k) adds.new (log scenario (after_turn scenario k s) k) adds.log none' in
+      subst (λ n. listed scenario (after_turn scenario k s) n ≡ listed scenario s n) (sym same)
+      (sym adds.line ∙ ap (λ l. listed scenario s k ++ l) new ∙ append-nil (listed scenario s k))
+  | inr other ↦ other_listed scenario k s i other
+]
 
 -- ---- the logs by their numbers
 
@@ -268,4 +322,25 @@ world_longer w w' made r is new = elim (cases_Bool (is_done r)) [
   | inr left ↦
       let same : w' ≡ w = rw left at new in
       subst (Longer w) (sym same) (record { nodes = refl; lines = λ i below. prefix_self (line w.scenario (state_of w) i) })
+]
+
+-- a step leaves the line of a node whose log got no entry by its turn
+pub step_left : (w w' : WorldParts) (made : Step) (r : StepReply) → r ≡ reply w.scenario (state_of w) made
+    → w' ≡ (if is_done r then record w { journal = w.journal ++ made ∷ [] } else w)
+    → (i : ℕ) → i < nodes_of w → Leaves made w.scenario (state_of w) (state_of w') i → line_of w' i ≡ line_of w i
+step_left w w' made r is new i below left = elim (cases_Bool (is_done r)) [
+  | inl done ↦
+      let next : w' ≡ record w { journal = w.journal ++ made ∷ [] } = rw done at new in
+      let s = state_of w in
+      let o = orderly w.scenario w.journal in
+      let done' : is_done (reply w.scenario s made) ≡ true = ap is_done (sym is) ∙ done in
+      let after : state_of w' ≡ proceed w.scenario s made = ap state_of next ∙ step_run w.scenario w.journal made done' in
+      ap (λ (x : WorldParts). line_of x i) next
+      ∙ line_listed w.scenario (w.journal ++ made ∷ []) i
+      ∙ ap (λ (x : RunState). listed w.scenario x i) (step_run w.scenario w.journal made done')
+      ∙ proceed_left w.scenario s made i (omega (arith, o.count, below)) o (in_order w.scenario w.journal) done' (subst (λ (x : RunState). Leaves made w.scenario s x i) after left)
+      ∙ sym (line_listed w.scenario w.journal i)
+  | inr kept ↦
+      let same : w' ≡ w = rw kept at new in
+      ap (λ (x : WorldParts). line_of x i) same
 ]

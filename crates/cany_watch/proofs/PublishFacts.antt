@@ -1,7 +1,7 @@
 -- What a step publishes.
 use Rattle.std.proofs.lemmas.Bool.{cases_lt}
-use Rattle.std.proofs.Common.{min, ◌≡◌, ◌≢◌, ◌⊎◌, ℕ, zero, suc, ◌+◌, ◌-◌, ◌<◌, ◌≤◌, Bool, true, false, List, [], ◌∷◌, ◌++◌, length, take, drop, refl, ap, sym, subst, ◌∙◌, arith, set, inl, inr, ⊎_elim, append_assoc, length-append, length-drop, take-append-drop, get_or, map, Some, slice_get}
-use Rattle.std.specs.Prelude.{if◌then◌else◌}
+use Rattle.std.proofs.Common.{min, ◌≡◌, ◌≢◌, ◌⊎◌, ℕ, zero, suc, ◌+◌, ◌-◌, ◌<◌, ◌≤◌, Bool, true, false, List, [], ◌∷◌, ◌++◌, length, take, drop, refl, ap, sym, subst, ◌∙◌, arith, set, inl, inr, ⊎_elim, append_assoc, length-append, length-drop, take-append-drop, get_or, map, Option, Some, None, slice_get}
+use Rattle.std.specs.Prelude.{if◌then◌else◌, IfSome}
 use Rattle.std.proofs.lemmas.List.{append-nil, map-append, get_or-set_same, get_or-set_other, length-set, take_all, take_more}
 use mathlib.Core.List.{IsPrefix}
 use Rattle.cany_base.specs.declared.log_entry.LogEntry.{LogEntry}
@@ -10,9 +10,9 @@ use Rattle.cany_model.specs.Bus.State.{RunState, node_at}
 use Rattle.cany_model.specs.Runs.Incarnations.{log_of}
 use Rattle.cany_world.specs.World.{WorldParts}
 use Rattle.std.proofs.Math.Seq.{take-length}
-use Rattle.cany_watch.specs.Halls.{AreFirst, HasTaken, HasTakenUp, HasPublished, HavePublished, IsPublisherOf, ArePublishersOf, publisher_at, no_publisher}
+use Rattle.cany_watch.specs.Halls.{AreFirst, HasTaken, HasTakenUp, HasPublished, HavePublished, IsAllShown, IsPublisherOf, IsShownBut, ArePublishersOf, publisher_at, no_publisher}
 use Rattle.cany_watch.specs.Notes.{NoteParts}
-use Rattle.cany_watch.specs.Lines.{Longer, line, line_of, nodes_of}
+use Rattle.cany_watch.specs.Lines.{HaveGrown, Longer, line, line_of, nodes_of}
 use Rattle.cany_watch.specs.Publishers.{PublisherParts, note_of}
 use Rattle.cany_watch.proofs.LineFacts.{logs_begin_line, logs_below}
 use Rattle.cany_watch.proofs.Prefixes.{prefix_self, prefix_trans, prefix_shorter, prefix_whole}
@@ -239,6 +239,12 @@ all_less is world below old new p = record {
 pub none_published : (is : Bool) (world : WorldParts) (publishers : List PublisherParts) → HavePublished is world 0 publishers publishers
 none_published is world publishers = record { count = refl; each = λ i less. absurd (omega arith); rest = λ i le. refl }
 
+same_or : (i j : ℕ) → (i ≡ j) ⊎ (i ≢ j)
+same_or zero zero = inl refl
+same_or zero (suc j) = inr (λ e. omega arith)
+same_or (suc i) zero = inr (λ e. omega arith)
+same_or (suc i) (suc j) = ⊎_elim (λ e. inl (ap suc e)) (λ n. inr (λ e. n (omega arith))) (same_or i j)
+
 each_next : (is : Bool) (world : WorldParts) (at : ℕ) (old new : List PublisherParts) (s : PublisherParts) → HavePublished is world at old new → at < length new
     → HasPublished is (line_of world at) (publisher_at old at) s → (i : ℕ) → i < at + 1 → (i ≡ at) ⊎ (i ≢ at) → HasPublished is (line_of world i) (publisher_at old i) (publisher_at (set new at s) i)
 each_next is world at old new s p less now i below (inl same) =
@@ -247,12 +253,6 @@ each_next is world at old new s p less now i below (inl same) =
 each_next is world at old new s p less now i below (inr other) =
     subst (HasPublished is (line_of world i) (publisher_at old i)) (sym (get_or-set_other new at i s no_publisher other)) (p.each i (omega (arith, other)))
 
-same_or : (i j : ℕ) → (i ≡ j) ⊎ (i ≢ j)
-same_or zero zero = inl refl
-same_or zero (suc j) = inr (λ e. omega arith)
-same_or (suc i) zero = inr (λ e. omega arith)
-same_or (suc i) (suc j) = ⊎_elim (λ e. inl (ap suc e)) (λ n. inr (λ e. n (omega arith))) (same_or i j)
-
 pub next_published : (is : Bool) (world : WorldParts) (at : ℕ) (old new : List PublisherParts) (s : PublisherParts) → HavePublished is world at old new → at < length new
     → HasPublished is (line_of world at) (publisher_at old at) s → HavePublished is world (at + 1) old (set new at s)
 next_published is world at old new s p less now = record {
@@ -260,6 +260,64 @@ next_published is world at old new s p less now = record {
   each = λ i below. each_next is world at old new s p less now i below (same_or i at);
   rest = λ i le. get_or-set_other new at i s no_publisher (λ e. omega arith) ∙ p.rest i (omega arith);
 }
+
+-- ---- one line is published, and the others are
+
+-- a line that is published stays so
+still_published : (is : Bool) (line : List LogEntry) (p : PublisherParts) → IsPublisherOf line p → p.shown ≡ line → HasPublished is line p p
+still_published is line p of shown = record { book = refl; beginning = of; grows = prefix_self p.shown; all = λ e. shown }
+
+one_published : (is : Bool) (world : WorldParts) (node : ℕ) (old : List PublisherParts) (s : PublisherParts) → ArePublishersOf world old → node < length old
+    → IsShownBut (Some node) world old → HasPublished is (line_of world node) (publisher_at old node) s → HavePublished is world (length old) old (set old node s)
+one_published is world node old s are less shown now = record {
+  count = length-set old node s;
+  each = λ i below. each_one i below (same_or i node);
+  rest = λ i le. get_or-set_other old node i s no_publisher (λ e. omega arith);
+}
+  where
+    each_one : (i : ℕ) → i < length old → (i ≡ node) ⊎ (i ≢ node) → HasPublished is (line_of world i) (publisher_at old i) (publisher_at (set old node s) i)
+    each_one i below (inl same) =
+        subst (λ (k : ℕ). HasPublished is (line_of world k) (publisher_at old k) (publisher_at (set old node s) k)) (sym same)
+        (subst (HasPublished is (line_of world node) (publisher_at old node)) (sym (get_or-set_same old node s no_publisher less)) now)
+    each_one i below (inr other) =
+        let here : (publisher_at old i).shown ≡ line_of world i =
+        shown i (omega (arith, are.count, below)) (λ e. let same : node ≡ i = cc e in other (sym same)) in
+        subst (HasPublished is (line_of world i) (publisher_at old i)) (sym (get_or-set_other old node i s no_publisher other))
+        (still_published is (line_of world i) (publisher_at old i) (are.each i below) here)
+
+pub one_at : (is : Bool) (world : WorldParts) (i node : ℕ) (old : List PublisherParts) (d s : PublisherParts) → i ≡ node → ArePublishersOf world old → node < nodes_of world
+    → IsShownBut (Some node) world old → HasPublished is (line_of world node) (get_or old i d) s → HavePublished is world (length old) old (set old i s)
+one_at is world i node old d s at are below shown now =
+    let same : get_or old i d ≡ publisher_at old node = at_any old i d no_publisher (omega (arith, at, are.count, below)) ∙ ap (publisher_at old) at in
+    subst (λ (k : ℕ). HavePublished is world (length old) old (set old k s)) (sym at)
+    (one_published is world node old s are (omega (arith, are.count, below)) shown (subst (λ (p : PublisherParts). HasPublished is (line_of world node) p s) same now))
+
+pub publisher_of : (world : WorldParts) (publishers : List PublisherParts) (i node : ℕ) (d : PublisherParts) → i ≡ node → ArePublishersOf world publishers → node < nodes_of world
+    → IsPublisherOf (line_of world node) (get_or publishers i d)
+publisher_of world publishers i node d at are below =
+    let same : get_or publishers i d ≡ publisher_at publishers node = at_any publishers i d no_publisher (omega (arith, at, are.count, below)) ∙ ap (publisher_at publishers) at in
+    subst (IsPublisherOf (line_of world node)) (sym same) (are.each node (omega (arith, are.count, below)))
+
+pub none_grown : (world : WorldParts) (old : List PublisherParts) → ArePublishersOf world old → IsShownBut None world old → HavePublished true world (length old) old old
+none_grown world old are shown = record {
+  count = refl;
+  each = λ i below. still_published true (line_of world i) (publisher_at old i) (are.each i below) (shown i (omega (arith, are.count, below)) (λ e. absurd (cc e)));
+  rest = λ i le. refl;
+}
+
+-- where all lines were published, all but the one that grew are
+pub still_but : (grown : Option ℕ) (world world' : WorldParts) (publishers : List PublisherParts) → HaveGrown grown world world' → IsAllShown world publishers
+    → IsShownBut grown world' publishers
+still_but grown world world' publishers have all i below other =
+    let below' : i < nodes_of world = omega (arith, below, have.longer.nodes) in
+    all i below' (λ e. absurd (cc e)) ∙ sym (have.others i below' other)
+
+pub grown_there : (grown : Option ℕ) (world world' : WorldParts) → HaveGrown grown world world' → IfSome grown (λ node. node < nodes_of world')
+grown_there None world world' have = tt
+grown_there (Some node) world world' have = omega (arith, have.node, have.longer.nodes)
+
+pub all_of : (is : Bool) (world : WorldParts) (old new : List PublisherParts) → ArePublishersOf world old → HavePublished is world (length old) old new → is ≡ true → IsAllShown world new
+all_of is world old new are p whole i below other = (p.each i (omega (arith, are.count, below))).all whole
 
 -- a longer line has the same beginnings
 pub still_of : (world world' : WorldParts) (publishers : List PublisherParts) → ArePublishersOf world publishers → Longer world world' → ArePublishersOf world' publishers

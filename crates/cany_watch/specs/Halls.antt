@@ -1,5 +1,5 @@
 -- What a contract sees of a hall, and what a step publishes.
-use Rattle.std.specs.Prelude.{◌≡◌, ℕ, ◌<◌, ◌≤◌, Bool, true, List, [], ◌++◌, length, map, slice_index_or}
+use Rattle.std.specs.Prelude.{◌≡◌, ◌≢◌, ℕ, ◌<◌, ◌≤◌, Bool, true, List, [], ◌++◌, length, map, slice_index_or, Option, Some, None}
 use mathlib.Core.List.{IsPrefix}
 use Rattle.cany_base.specs.declared.log_entry.LogEntry.{LogEntry}
 use Rattle.cany_world.specs.World.{WorldParts}
@@ -64,3 +64,10 @@ pub record HavePublished (is_all : Bool) (world : WorldParts) (below : ℕ) (pub
   pub count : length publishers' ≡ length publishers
   pub each : (i : ℕ) → i < below → HasPublished is_all (line_of world i) (publisher_at publishers i) (publisher_at publishers' i)
   pub rest : (i : ℕ) → below ≤ i → publisher_at publishers' i ≡ publisher_at publishers i
+
+-- the line of each node but this one is published
+abbrev pub IsShownBut : Option ℕ → WorldParts → List PublisherParts → Type 0
+IsShownBut node world publishers = (i : ℕ) → i < nodes_of world → node ≢ Some i → (publisher_at publishers i).shown ≡ line_of world i
+
+abbrev pub IsAllShown : WorldParts → List PublisherParts → Type 0
+IsAllShown = IsShownBut None

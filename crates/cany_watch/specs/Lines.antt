@@ -1,5 +1,5 @@
 -- The line of a node, which is what is published of it.
-use Rattle.std.specs.Prelude.{◌≡◌, ℕ, suc, ◌<◌, List}
+use Rattle.std.specs.Prelude.{◌≡◌, ◌≢◌, ℕ, suc, ◌<◌, List, Option, Some, IfSome}
 use Rattle.std.specs.List.{flat_map, range_with_len}
 use mathlib.Core.List.{IsPrefix}
 use Rattle.cany_base.specs.declared.log_entry.LogEntry.{LogEntry}
@@ -22,3 +22,9 @@ nodes_of world = world.scenario.params.nodes
 pub record Longer (world world' : WorldParts) : Type 0 where
   pub nodes : nodes_of world' ≡ nodes_of world
   pub lines : (i : ℕ) → i < nodes_of world → IsPrefix (line_of world i) (line_of world' i)
+
+-- no line but that of this node is longer than before, and the node is one of the world's
+pub record HaveGrown (grown : Option ℕ) (world world' : WorldParts) : Type 0 where
+  pub longer : Longer world world'
+  pub node : IfSome grown (λ node. node < nodes_of world)
+  pub others : (i : ℕ) → i < nodes_of world → grown ≢ Some i → line_of world' i ≡ line_of world i

@@ -8,9 +8,10 @@ ghost use Rattle.cany_watch.specs.Halls.{HallParts, published_of, publisher_at};
 ghost use Rattle.cany_watch.specs.Lines.{line_of, nodes_of};
 ghost use Rattle.cany_watch.specs.Publishers.{note_of};
 
+use crate::growing::make;
 use crate::note::Note;
 use crate::publisher::Publisher;
-use crate::publishing::{end_all, publish_lines, publishers_of};
+use crate::publishing::{end_all, publish_grown, publishers_of};
 use crate::reading::Reading;
 use cany_base::{Memory, NodeId, Scenario, Step};
 use cany_model::StepReply;
@@ -24,8 +25,8 @@ use std::sync::Wait;
 pub enum Shown {
     /// The published list of every node is its line.
     All,
-    /// There was no memory for all of it: of some nodes a beginning of the line is published, and
-    /// the next step tries again.
+    /// Out of memory: of some node a beginning of the line is published, and the next step tries
+    /// the lines of all nodes again.
     Memory,
 }
 
@@ -45,16 +46,20 @@ impl Shown {
 pub struct Hall {
     world: World,
     publishers: Vec<Publisher>,
+    /// Whether the line of each node is known to be published whole, as after a step that answers
+    /// `All`. It is no part of what the value stands for.
+    is_all: bool,
 }
 
 impl Model for Hall {
-    ghost use Rattle.cany_watch.specs.Halls.{ArePublishersOf, HallParts};
+    ghost use Rattle.std.specs.Prelude.{◌≡◌, true};
+    ghost use Rattle.cany_watch.specs.Halls.{ArePublishersOf, HallParts, IsAllShown};
 
     ghost Value = { HallParts };
 
     ghost view = { λ h. record { world = h.world; publishers = h.publishers.items } };
 
-    ghost invariant = { λ h. ArePublishersOf h.world h.publishers.items };
+    ghost invariant = { λ h. ArePublishersOf h.world h.publishers.items × (h.is_all ≡ true → IsAllShown h.world h.publishers.items) };
 }
 
 impl Hall {
@@ -84,7 +89,14 @@ impl Hall {
         let nodes = usize::from(scenario.params().nodes);
         let (publishers, readings) = publishers_of(rt, alloc, nodes)?;
         match World::build(alloc, scenario) {
-            Ok(world) => Ok((Hall { world, publishers }, readings)),
+            Ok(world) => {
+                let hall = Hall {
+                    world,
+                    publishers,
+                    is_all: false,
+                };
+                Ok((hall, readings))
+            }
             Err(memory) => {
                 end_all(rt, publishers);
                 Err(memory)
@@ -103,8 +115,9 @@ impl Hall {
         &self.world
     }
 
-    /// Makes the step, as `World::step` does, and publishes the line of each node. It may wait for
-    /// readers.
+    /// Makes the step, as `World::step` does, and publishes what it made longer: only a turn makes
+    /// a line longer, and only that of its node. After a step that answered `Memory`, and at the
+    /// first step, it publishes the line of every node. It may wait for readers.
     ///
     /// Promise: reply and world are those of `World::step`. What is published of a node is a
     /// beginning of its line, and begins with all that was published before.
@@ -120,16 +133,18 @@ impl Hall {
         ensures new { self.new.world ≡ (if is_done result.0 then record self.old.world { journal = self.old.world.journal ++ step ∷ [] } else self.old.world) }
         ensures run { result.0 ≡ StepReply.Done → state_of self.new.world ≡ after_step self.old.world.scenario (state_of self.old.world) step }
 
-        // What is published of a node is a beginning of its line, never shorter than before, and
-        // with `All` it is the line. Lines only grow.
+        // What is published of a node is a beginning of its line, never shorter than before. With
+        // `All` it is the line of each node, also of one whose line an earlier step could not
+        // publish. Lines only grow.
         ensures lines { (i : ℕ) → i < nodes_of self.old.world → IsPrefix (line_of self.old.world i) (line_of self.new.world i) }
         ensures grows { (i : ℕ) → IsPrefix (published_of self.old i) (published_of self.new i) }
         ensures begins { (i : ℕ) → i < nodes_of self.old.world → IsPrefix (published_of self.new i) (line_of self.new.world i) }
         ensures all { result.1 ≡ shown.All → (i : ℕ) → i < nodes_of self.old.world → published_of self.new i ≡ line_of self.new.world i }
         ensures books { (i : ℕ) → (publisher_at self.new.publishers i).book ≡ (publisher_at self.old.publishers i).book }
     {
-        let reply = self.world.step(step);
-        let is_all = publish_lines(rt, &self.world, &mut self.publishers);
+        let (reply, grown) = make(&mut self.world, step);
+        let is_all = publish_grown(rt, &self.world, grown, self.is_all, &mut self.publishers);
+        self.is_all = is_all;
         (reply, Shown::of(is_all))
     }
 
@@ -157,7 +172,11 @@ impl Hall {
     pub fn end<R: Wait>(self, rt: &R) -> World
         ensures { result ≡ self.world }
     {
-        let Hall { world, publishers } = self;
+        let Hall {
+            world,
+            publishers,
+            is_all: _,
+        } = self;
         end_all(rt, publishers);
         world
     }

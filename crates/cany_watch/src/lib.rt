@@ -7,6 +7,7 @@
 #![tactic(auto)]
 
 mod book;
+mod growing;
 mod hall;
 mod note;
 mod published;

@@ -1,4 +1,4 @@
-ghost use Rattle.std.specs.Prelude.{◌≡◌, ◌⊎◌, ◌++◌, ◌∷◌, [], length, MatchBool, if◌then◌else◌};
+ghost use Rattle.std.specs.Prelude.{◌≡◌, ◌⊎◌, ◌++◌, ◌∷◌, [], length, nat_le, MatchBool, if◌then◌else◌};
 ghost use mathlib.Core.List.{IsPrefix};
 ghost use Rattle.cany_watch.specs.Book.{head_of};
 ghost use Rattle.cany_watch.specs.Notes.{Follows};
@@ -68,18 +68,20 @@ impl Note {
         }
     }
 
-    /// Whether the other note follows this one. Of any two notes of one node one follows the other.
+    /// Whether the other has as many entries as this one, or more: then it follows this one, and
+    /// otherwise this one follows it.
     ///
-    /// Promise: where the answer is true, the list of the other note begins with that of this one.
-    /// Where it is false, the list of this note begins with that of the other.
+    /// Promise: the answer tells exactly whether the other has as many entries or more. Where it
+    /// does, its list begins with that of this note. Else the list of this note begins with that of
+    /// the other.
     ///
-    /// Answers: true only where the other follows this one, false only where this one follows the
-    /// other. Of two equal notes both hold.
+    /// Answers: true exactly where the list of the other is as long as this one, or longer.
     ///
     /// Shown by: `a_read_after_learning_is_the_line`, `watch_one_node`.
     pub fn is_followed_by(&self, other: &Note) -> bool
         requires { other.now.book ≡ self.now.book }
-        ensures { MatchBool result (Follows self.now other.now) (Follows other.now self.now) }
+        ensures longer { result ≡ nat_le (length self.now.entries) (length other.now.entries) }
+        ensures follows { MatchBool result (Follows self.now other.now) (Follows other.now self.now) }
     {
         let mut both = self.seen.again();
         both.learn(&other.seen);

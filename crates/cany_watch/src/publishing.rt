@@ -1,7 +1,7 @@
 //! Publishes the lines of a world.
-ghost use Rattle.std.specs.Prelude.{◌≡◌, ◌<◌, ℕ, length, IfOk};
+ghost use Rattle.std.specs.Prelude.{◌≡◌, ◌<◌, ℕ, length, true, Some, IfOk, IfSome};
 ghost use mathlib.Core.List.{IsPrefix};
-ghost use Rattle.cany_watch.specs.Halls.{AreFirst, ArePublishersOf, HasPublished, HasTaken, HasTakenUp, HavePublished};
+ghost use Rattle.cany_watch.specs.Halls.{AreFirst, ArePublishersOf, HasPublished, HasTaken, HasTakenUp, HavePublished, IsShownBut};
 ghost use Rattle.cany_watch.specs.Lines.{line_of, nodes_of};
 
 use crate::publisher::Publisher;
@@ -104,10 +104,37 @@ fn publish_all<R: Wait>(rt: &R, world: &World, publishers: &mut [Publisher]) -> 
     is_all
 }
 
-/// The same, of the publishers of a hall.
-pub(crate) fn publish_lines<R: Wait>(rt: &R, world: &World, publishers: &mut Vec<Publisher>) -> bool
-    requires { ArePublishersOf world.now publishers.old.items }
+/// Publishes the line of a node, where those of all others are published.
+fn publish_one<R: Wait>(rt: &R, world: &World, node: NodeId, publishers: &mut [Publisher]) -> bool
+    requires are { ArePublishersOf world.now publishers.old }
+    requires node { node < nodes_of world.now }
+    requires others { IsShownBut (Some node) world.now publishers.old }
+    ensures { HavePublished result world.now (length publishers.old) publishers.old publishers.new }
+{
+    let i = usize::from(node.get());
+    let publisher = &mut publishers[i];
+    publish_line(rt, world, node, publisher)
+}
+
+/// Publishes the line of the node that was made longer. Where the other lines are not all published
+/// it publishes the lines of all nodes.
+pub(crate) fn publish_grown<R: Wait>(
+    rt: &R,
+    world: &World,
+    grown: Option<NodeId>,
+    is_all_else: bool,
+    publishers: &mut Vec<Publisher>,
+) -> bool
+    requires are { ArePublishersOf world.now publishers.old.items }
+    requires node { IfSome grown (λ node. node < nodes_of world.now) }
+    requires others { is_all_else ≡ true → IsShownBut grown world.now publishers.old.items }
     ensures { HavePublished result world.now (length publishers.old.items) publishers.old.items publishers.new.items }
 {
-    publish_all(rt, world, publishers.as_mut_slice())
+    if !is_all_else {
+        return publish_all(rt, world, publishers.as_mut_slice());
+    }
+    match grown {
+        Some(node) => publish_one(rt, world, node, publishers.as_mut_slice()),
+        None => true,
+    }
 }

@@ -1,10 +1,12 @@
-ghost use Rattle.std.specs.Prelude.{◌≡◌, ◌⊎◌, ◌+◌, ◌-◌, ◌≤◌, ◌++◌, length, map, take, drop, IfSome, IfNone};
+ghost use Rattle.std.specs.Prelude.{◌≡◌, ◌⊎◌, ◌+◌, ◌-◌, ◌≤◌, ◌++◌, length, map, take, drop, nat_le, true, false, IfSome, IfNone};
 ghost use Rattle.cany_base.specs.declared.actions.Action.TheVariants.{Enter};
 ghost use Rattle.left_right.specs.Sides.{view as view_of};
 ghost use Rattle.cany_watch.specs.Notes.{Follows};
 ghost use Rattle.cany_watch.specs.Readers.{IsOfNode};
+ghost use Rattle.cany_watch.specs.Shown.{IsShown};
 
 use crate::note::Note;
+use crate::published::Published;
 use crate::rule::{LineReader, Show};
 use cany_base::{Action, Actions, LogEntry};
 use std::marker::Model;
@@ -50,6 +52,24 @@ fn append(entries: &[LogEntry], from: usize, out: &mut Actions)
     let rest = &entries[from.min(entries.len())..];
     let count = (out.room() - out.len()).min(rest.len());
     append_all(&rest[..count], out);
+}
+
+/// Takes in the list that was entered, unless it is shorter than what is known, and appends its
+/// entries from this place on, as `Enter`, while there is room. Whether it did.
+fn take_in(known: &mut Note, entered: &Published, from: usize, out: &mut Actions) -> bool
+    requires shown { IsShown entered.now }
+    requires book { entered.now.front.book ≡ known.old.book }
+    ensures longer { result ≡ nat_le (length known.old.entries) (length entered.now.entries.items) }
+    ensures list { result ≡ true → Follows known.old known.new × (known.new.entries ≡ entered.now.entries.items) }
+    ensures out { result ≡ true → out.new ≡ record { items = out.old.items ++ take (out.old.room - length out.old.items) (map Enter (drop from entered.now.entries.items)); room = out.old.room } }
+    ensures none { result ≡ false → (known.new ≡ known.old) × (out.new ≡ out.old) }
+{
+    if !known.is_followed_by(&entered.front) {
+        return false;
+    }
+    *known = entered.front.again();
+    append(entered.entries.as_slice(), from, out);
+    true
 }
 
 impl Reading {
@@ -106,8 +126,8 @@ impl Reading {
         unreachable!()
     }
 
-    /// The same, or none where the reader came back, or the list is shorter than what is known. No
-    /// clause of `left_right` excludes that.
+    /// The same, or none where the reader came back, or the list is shorter than what is known, as
+    /// `take_in` tells. No clause of `left_right` excludes either.
     fn try_read(&mut self, from: usize, out: &mut Actions) -> Option<usize>
         ensures list { IfSome result (λ _. Follows self.old self.new) }
         ensures len { IfSome result (λ len. len ≡ length self.new.entries) }
@@ -119,15 +139,11 @@ impl Reading {
         };
         match reader.enter_as::<Show>() {
             Ok(reading) => {
-                let published = reading.get();
-                let len = published.entries.len();
-                let follows = self.known.is_followed_by(&published.front);
-                if follows {
-                    self.known = published.front.again();
-                    append(published.entries.as_slice(), from, out);
-                }
+                let entered = reading.get();
+                let len = entered.entries.len();
+                let is_taken = take_in(&mut self.known, entered, from, out);
                 self.reader = Some(reading.leave());
-                if follows { Some(len) } else { None }
+                if is_taken { Some(len) } else { None }
             }
             Err(reader) => {
                 self.reader = Some(reader);

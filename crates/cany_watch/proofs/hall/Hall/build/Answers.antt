@@ -8,12 +8,14 @@ use Rattle.cany_watch.specs.Publishers.{note_of}
 use Rattle.cany_watch.proofs.PublishFacts.{first_of, note_there}
 use Rattle.cany_watch.proofs.hall.Hall.build.Goals as goal
 
-pub invariant_of-result : goal.invariant_of-result
-invariant_of-result g c =
+pub invariant_of-hall : goal.invariant_of-hall
+invariant_of-hall g c =
     let count : c.from-nodes.result ≡ c.args.scenario.now.params.nodes = c.from-nodes.ensures ∙ ap (λ (p : Parameters). p.nodes) (c.behind-scenario.view_is ∙ c.params.ensures.params) in
-    let nodes : nodes_of c.in-Ok.world ≡ c.args.scenario.now.params.nodes = ap nodes_of c.in-Ok.ensures in
-    first_of c.in-Ok.world c.in_ok-publishers.publishers.items c.in_ok-publishers.readings.items
-    (subst (λ (n : ℕ). AreFirst n c.in_ok-publishers.publishers.items c.in_ok-publishers.readings.items) (count ∙ sym nodes) c.in_ok-publishers.ensures)
+    let nodes : nodes_of c.in-Ok.world ≡ c.args.scenario.now.params.nodes = ap nodes_of c.in-Ok.ensures in (
+      first_of c.in-Ok.world c.in_ok-publishers.publishers.items c.in_ok-publishers.readings.items
+          (subst (λ (n : ℕ). AreFirst n c.in_ok-publishers.publishers.items c.in_ok-publishers.readings.items) (count ∙ sym nodes) c.in_ok-publishers.ensures),
+      λ e. absurd (cc e),
+    )
 
 pub returns-in-Ok-clause-readings : goal.returns-in-Ok-clause-readings
 returns-in-Ok-clause-readings g c i less =
