@@ -32,7 +32,7 @@ use Rattle.cany_model.proofs.Bus.Identities.{same_class-true}
 use Rattle.cany_model.proofs.Promises.Firsts.{first_is_first}
 use Rattle.cany_model.proofs.Promises.OwnSlotsAlone.{run_numbered}
 use Rattle.cany_model.proofs.Promises.Sources.{IsSent, sourced}
-use Rattle.cany_model.proofs.Rules.MessageKeys.{same_message}
+use Rattle.cany_model.proofs.Rules.Services.MessageKeys.{same_message}
 use Rattle.cany_model.proofs.Rules.ProtocolFacts.{is_data}
 use Rattle.cany_model.proofs.Runs.Runs.{orderly}
 use Rattle.cany_check.specs.declared.record.MessageRecord.{MessageRecord}

@@ -24,7 +24,7 @@ use Rattle.cany_model.specs.Runs.Run.{run}
 use Rattle.cany_model.proofs.Among.{Each-flat_map, Each-map, Each-weaker}
 use Rattle.cany_model.proofs.Bus.Seen.{Numbered}
 use Rattle.cany_model.proofs.Promises.OwnSlotsAlone.{run_numbered}
-use Rattle.cany_model.proofs.Rules.MessageKeys.{length-messages_of}
+use Rattle.cany_model.proofs.Rules.Services.MessageKeys.{length-messages_of}
 use Rattle.cany_model.proofs.Runs.Journals.{trace_short}
 use Rattle.cany_model.proofs.Runs.Runs.{orderly}
 use Rattle.cany_check.specs.declared.record.SignRecord.{SignRecord}

@@ -8,7 +8,7 @@ use Rattle.cany_base.specs.Nodes.{Nodes}
 use Rattle.cany_base.specs.Scenario.{ScenarioParts}
 use Rattle.cany_model.specs.Bus.State.{RunState}
 use Rattle.cany_model.specs.Rules.Messages.{Message, frames_of, message_key, messages_of}
-use Rattle.cany_model.proofs.Rules.MessageKeys.{message_at}
+use Rattle.cany_model.proofs.Rules.Services.MessageKeys.{message_at}
 use Rattle.cany_world.specs.Settled.{is_queued, nodes_ahead, waiting_nodes}
 use Rattle.cany_check.specs.Account.{message_record, unsent_record}
 use Rattle.cany_check.specs.Records.{message_slots, with_slots}

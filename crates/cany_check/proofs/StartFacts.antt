@@ -25,7 +25,7 @@ use Rattle.cany_model.proofs.Bus.Restarts.{after_restarts-trace, restarts_or_sta
 use Rattle.cany_model.proofs.Bus.Seen.{length-seen}
 use Rattle.cany_model.proofs.Bus.States.{node_at-opening, node_at_past}
 use Rattle.cany_model.proofs.Rules.ProtocolFacts.{IsFoundedEntry}
-use Rattle.cany_model.proofs.Rules.SignRooms.{each_made}
+use Rattle.cany_model.proofs.Rules.Site.SignRooms.{each_made}
 use Rattle.cany_model.proofs.Runs.Runs.{along_run}
 use Rattle.cany_model.proofs.Runs.Steps.{after_slot-trace, after_turn-trace}
 use Rattle.cany_world.specs.Incarnations.{takes_part_since}

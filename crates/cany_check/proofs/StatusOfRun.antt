@@ -20,7 +20,7 @@ use Rattle.cany_model.specs.Rules.Log.{log}
 use Rattle.cany_model.specs.Rules.Messages.{Message, is_service, messages_of}
 use Rattle.cany_model.specs.Runs.Run.{all_read, run}
 use Rattle.cany_model.proofs.Among.{Among, Among-from_Contains, Among-from_any, Among-from_map, Among-map, Among-weaker, Among-which, Among-with, Each-filter, Each-flat_map, Each-map, Each-weaker, any-from_Among}
-use Rattle.cany_model.proofs.Rules.KnowledgeFacts.{same_sign-true}
+use Rattle.cany_model.proofs.Rules.Site.KnowledgeFacts.{same_sign-true}
 use Rattle.cany_check.specs.declared.record.MessageRecord.{MessageRecord}
 use Rattle.cany_check.specs.declared.record.SignRecord.{SignRecord}
 use Rattle.cany_check.specs.declared.findings.Fate.{Fate}

@@ -8,7 +8,7 @@ use Rattle.cany_base.specs.Params.{Parameters}
 use Rattle.cany_base.proofs.SetFacts.{below_meet, meet_both, set_where}
 use Rattle.cany_model.specs.Rules.Notices.{IsPart}
 use Rattle.cany_model.specs.Rules.Vectors.{everybody, met_with}
-use Rattle.cany_model.proofs.Rules.KnowledgeNodes.{everybody_below}
+use Rattle.cany_model.proofs.Rules.Site.KnowledgeNodes.{everybody_below}
 
 -- ---- a vector that was met
 

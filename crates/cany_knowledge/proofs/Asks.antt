@@ -16,7 +16,7 @@ use Rattle.cany_model.specs.Rules.Knowledge.{Knowledge, after_finding}
 use Rattle.cany_model.specs.Rules.KnowledgeOf.{after_asking, ended_in, knowledge_of}
 use Rattle.cany_model.specs.Rules.Views.{after_ask, with_joiner, with_leaver}
 use Rattle.cany_model.proofs.Bus.Notes.{placed_where}
-use Rattle.cany_model.proofs.Rules.KnowledgeSteps.{found_keeps, joiners_after, joiners_by, leavers_after, leavers_by, life_keeps}
+use Rattle.cany_model.proofs.Rules.Site.KnowledgeSteps.{found_keeps, joiners_after, joiners_by, leavers_after, leavers_by, life_keeps}
 use Rattle.cany_knowledge.specs.ClosedForms.{HoldsSince, hears_join, hears_leave, installed_in, is_with, is_without, joins_in, leaves_in, members_of}
 use Rattle.cany_knowledge.proofs.Slots.{since}
 use Rattle.cany_knowledge.proofs.Vector.{ended_is}

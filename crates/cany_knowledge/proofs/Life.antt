@@ -9,7 +9,7 @@ use Rattle.cany_base.specs.Scenario.{ScenarioParts}
 use Rattle.cany_model.specs.Rules.Knowledge.{Knowledge, after_hearing, after_life, hears_life, shows_life, with_shown}
 use Rattle.cany_model.specs.Rules.KnowledgeOf.{ended_in, knowledge_of}
 use Rattle.cany_model.proofs.Bus.Notes.{placed_where}
-use Rattle.cany_model.proofs.Rules.KnowledgeSteps.{is_admitted, last_after, members_after, members_by, shown_after}
+use Rattle.cany_model.proofs.Rules.Site.KnowledgeSteps.{is_admitted, last_after, members_after, members_by, shown_after}
 use Rattle.cany_knowledge.specs.ClosedForms.{IsGreatest, hears_itself, is_admitted_in, members_of, shows_life_in, shows_own_life_in}
 use Rattle.cany_knowledge.proofs.Slots.{greatest}
 

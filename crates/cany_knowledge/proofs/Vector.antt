@@ -14,8 +14,8 @@ use Rattle.cany_model.specs.Rules.Knowledge.{Knowledge}
 use Rattle.cany_model.specs.Rules.KnowledgeOf.{after_installing, after_notice, after_starting, ended_in, knowledge_of, met_in, start_in}
 use Rattle.cany_model.specs.Rules.Vectors.{after_exchange, brought, everybody, met, met_with}
 use Rattle.cany_model.specs.Rules.Views.{start_of}
-use Rattle.cany_model.proofs.Rules.CycleFacts.{in_start}
-use Rattle.cany_model.proofs.Rules.KnowledgeSteps.{members_after, members_by, vector_after}
+use Rattle.cany_model.proofs.Rules.Site.CycleFacts.{in_start}
+use Rattle.cany_model.proofs.Rules.Site.KnowledgeSteps.{members_after, members_by, vector_after}
 use Rattle.cany_model.proofs.Timed.Views.SameView.{end_place}
 use Rattle.cany_model.proofs.Timed.Views.VectorLastEffect.{IsAt, IsCycle, at_end, at_exchange, at_place, at_start, brings, brought_in, brought_out, exchange_in, no_end, no_start}
 use Rattle.cany_model.proofs.Timed.Views.VectorSlots.{cycle_of_formulas}

@@ -2,7 +2,7 @@
 -- nodes came to.
 use Rattle.std.specs.Prelude.{ℕ, zero, suc, ◌-◌, ◌==◌, ◌++◌, Bool, if◌then◌else◌, List, [], ◌∷◌, Option, None, map, take}
 use Rattle.std.specs.List.{range_with_len}
-use Rattle.std.proofs.Common.{◌≡◌, ap, ◌∙◌, sym}
+use Rattle.std.proofs.Common.{◌≡◌, ap}
 use Rattle.cany_base.specs.declared.format.Format.TheVariants.{One}
 use Rattle.cany_base.specs.declared.log_entry.LogEntry.{LogEntry}
 use Rattle.cany_base.specs.declared.log_entry.LogEntry.TheVariants.{Deliver}
@@ -13,6 +13,7 @@ use Rattle.cany_base.specs.declared.message.Service.{Service}
 use Rattle.cany_base.specs.declared.rule.Rule.{Rule}
 use Rattle.cany_base.specs.declared.step.Step.{Step}
 use Rattle.cany_base.specs.declared.step.Step.TheVariants.{Slot, Turn}
+use Rattle.cany_base.specs.Nodes.{Nodes}
 use Rattle.cany_base.specs.Params.{default_parameters}
 use Rattle.cany_base.specs.Scenario.{ScenarioParts}
 use Rattle.cany_model.proofs.RowWords.{run_words, scenario_of, after_rounds, after_rounds_is}
@@ -55,6 +56,14 @@ unfolding three
 three_at_lag_1 slots sends rules =
     let sc = three slots sends rules [] in
     record sc { params = record { format = One; nodes = 3; lag = 1; omit = 1; errors = 2; bound = 75; cycle = 152; life = 76; silence = 153; confirm = 10; slots = slots } }
+
+-- Two nodes, of which these are members, with cycles of this length and with these JOINs, stops and
+-- restarts. A cycle ends 19 slots after its start.
+unfoldable pub joining : (slots cycle : ℕ) → Nodes → List NodeAsk → List Rule → List NodeAsk → ScenarioParts
+unfolding two
+joining slots cycle members joins rules restarts =
+    let sc = two slots [] rules restarts in
+    record sc { params = record sc.params { cycle = cycle }; members = members; joins = joins }
 
 -- ---- journals, as reports have them: a point is a slot, and a digit the turn of that node
 
@@ -129,5 +138,5 @@ abbrev pub key : ℕ → ℕ → MsgKey
 key origin seq = record { origin = origin; seq = seq }
 
 unfoldable pub row : Unit {0}
-unfolding seen_in seen_by seen_of lives_of settled_after send slot_rule again two three_by three three_at_lag_1 steps repeated
+unfolding seen_in seen_by seen_of lives_of settled_after send slot_rule again two joining three_by three three_at_lag_1 steps repeated
 row = tt

@@ -15,7 +15,7 @@ use Rattle.cany_model.proofs.Bus.States.{node_at-opening, node_at_past}
 use Rattle.cany_model.proofs.Runs.PresentIncarnations.{each_present}
 use Rattle.cany_model.proofs.Runs.Runs.{along_run}
 use Rattle.cany_model.proofs.Runs.Steps.{after_slot-length, after_slot-present, after_turn-present}
-use Rattle.cany_laws.proofs.Lives.{Lived}
+use Rattle.cany_laws.proofs.Silences.Lives.{Lived}
 
 pub record Begins (p : Parameters) (inc : Incarnation) : Type 0 where
   pub since : inc.since ≤ inc.from

@@ -24,7 +24,7 @@ use Rattle.cany_model.proofs.Runs.SlotStates.{slot_has_state, slot_state_is}
 use Rattle.cany_model.proofs.Runs.Steps.{MayTurn, after_slot-present, after_slot-trace, after_slot-unread, after_turn-other, after_turn-present, after_turn-runs, after_turn-trace, running_before_slot}
 use Rattle.cany_laws.specs.Logs.{IsIncarnation, past_to}
 use Rattle.cany_laws.proofs.KeptAlongJournal.{after_slot-ended, after_turn-ended, drop-map, IsKeptOn, kept_on}
-use Rattle.cany_laws.proofs.Lives.{Lived, each_lived, lived}
+use Rattle.cany_laws.proofs.Silences.Lives.{Lived, each_lived, lived}
 use Rattle.cany_model.proofs.Timed.Views.StartViews.{front_split}
 use Rattle.cany_laws.proofs.CaughtUp.{CaughtUp, caught_up, still_present, still_read, still_runs}
 use Rattle.cany_laws.proofs.RanSinceSlot.{IsSince, since_kept}

@@ -6,6 +6,7 @@ use Rattle.cany_base.specs.declared.notice.NoticeKind.{NoticeKind}
 use Rattle.cany_base.specs.declared.notice.NoticeKind.TheVariants.{Idle, Got, Sent, Bad}
 use Rattle.cany_base.specs.declared.slot_note.SlotNote.{SlotNote}
 use Rattle.cany_base.specs.Nodes.{has}
+use Rattle.cany_base.specs.Params.{Parameters}
 use Rattle.cany_base.specs.Scenario.{ScenarioParts}
 use Rattle.cany_model.specs.Bus.Frames.{same_class}
 use Rattle.cany_model.specs.Bus.History.{given}
@@ -21,12 +22,19 @@ got_join r (Got f) = same_class f.class class.Join && f.node == r
 got_join r (Sent f) = false
 got_join r Bad = false
 
--- no node got a JOIN of node r in a slot up to the second of these, but for those that lie a cycle
--- and the bound or more before the first
+-- slot u comes after slot t - `cycle` - `bound`, if there is one
+abbrev pub IsInStretchOf : Parameters → (t u : ℕ) → Type 0
+IsInStretchOf p t u = t < u + (p.cycle + p.bound)
+
+-- no node took a JOIN of node r from the slot
+abbrev pub GaveNoJoin : ℕ → SlotNote → Type 0
+GaveNoJoin r note = (j : ℕ) → got_join r (given j note) ≡ false
+
+-- no slot of the stretch after slot t - `cycle` - `bound`, and up to slot `until`, carried a JOIN
+-- of node r that some node took
 abbrev pub NobodyGotJoin : ScenarioParts → RunState → (r t until : ℕ) → Type 0
 NobodyGotJoin scenario s r t until =
-    (note : SlotNote) → Contains s.trace note → t < note.slot + (scenario.params.cycle + scenario.params.bound) → note.slot ≤ until
-    → (j : ℕ) → got_join r (given j note) ≡ false
+    (note : SlotNote) → Contains s.trace note → IsInStretchOf scenario.params t note.slot → note.slot ≤ until → GaveNoJoin r note
 
 -- An incarnation of node i has another node r in its view after its turn of slot t. Cycle k starts
 -- a silence or more after slot t: before its turn of the slot in which it starts the incarnation

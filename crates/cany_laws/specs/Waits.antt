@@ -17,7 +17,7 @@ use Rattle.cany_model.specs.Promises.Settled.{IsCorrectFrom}
 use Rattle.cany_model.specs.Rules.Log.{log}
 use Rattle.cany_model.specs.Rules.Messages.{Message, message_key, messages_of}
 use Rattle.cany_model.specs.Rules.Turn.{has_asked, scenario_at}
-use Rattle.cany_model.specs.Runs.Run.{slot_state}
+use Rattle.cany_model.specs.Runs.Run.{run, slot_state}
 
 -- the notes of n consecutive slots, from slot first on, newest first, where these slots ran
 abbrev pub slots_from : RunState → (first n : ℕ) → List SlotNote
@@ -43,6 +43,12 @@ pub record WasCarriedIn (trace : List SlotNote) (x : Identity) (first n : ℕ) :
   pub to : note.slot < first + n
   pub frame : carried (is_of x) note ≡ true
   pub clean : note.verdict ≡ Clean
+
+-- in n consecutive slots, from slot first on, a running node waited with it up to the first that
+-- carried it Clean, or in all of them if none did
+abbrev pub IsAwaitedUntilCarried : ScenarioParts → List Step → Identity → (first n : ℕ) → Type 0
+IsAwaitedUntilCarried scenario journal x first n =
+    (t : ℕ) → first ≤ t → t < first + n → (WasCarriedIn (run scenario journal).trace x first (t - first) → ⊥) → WasAwaited scenario journal x t
 
 -- whether the slot carried Clean a frame that interferes: it wins over those of this identity, and
 -- is of none of the classes that win over all others

@@ -10,10 +10,14 @@ ghost use Rattle.cany_model.specs.Promises.Settled.{IsCorrect, IsCorrectFrom, or
 ghost use Rattle.cany_model.specs.Rules.Messages.{Message, data_id, messages_of};
 ghost use Rattle.cany_model.specs.Rules.Sends.{is_sent_at_once};
 ghost use Rattle.cany_model.specs.Runs.Run.{run};
-ghost use Rattle.cany_laws.specs.Waits.{HasAskedBy, HasDeliveredBy, IsAwaitedThrough, WasCarriedIn, least_left, most_taken, interference, waits_since, window};
+ghost use Rattle.cany_laws.specs.Waits.{HasAskedBy, HasDeliveredBy, IsAwaitedThrough, IsAwaitedUntilCarried, WasCarriedIn, least_left, most_taken, interference, waits_since, window};
 
 /// How long a frame waits. At most `most_taken` slots of a window of `bound` + `lag` slots are Lost
 /// or Partial, or carry Clean an ACCEPT, RHA or ELS. With N nodes that is 3N² + 2N + `errors`.
+///
+/// It says something from n = w times `most_taken` + 1 slots on: below that the second number alone
+/// is n or more. Where a window has just one slot more than `most_taken`, as with the least `bound`
+/// and no lag, that is one whole window, two windows less a slot, three less two.
 ///
 /// No slot is idle while a frame waits. The node that waits need not be the same in each slot.
 ///
@@ -34,10 +38,13 @@ pub fn few_slots_of_waiting()
 /// A frame that waits is carried. `least_left` is `bound` + `lag` less `most_taken`, and in a legal
 /// scenario at least 1. Against an ACCEPT, RHA or ELS no slot is counted, so one window is enough.
 ///
+/// It speaks of a frame that is asked for once, carried and gone: nobody need wait with it after
+/// that. It does not speak of one that is withdrawn before it was carried Clean.
+///
 /// Promise: in a run within the hypothesis of a legal scenario, let running nodes wait with a frame
-/// of one identity in each slot of w windows of `bound` + `lag` slots. Let fewer than w times
-/// `least_left` of these slots carry Clean a frame that wins over it, of the classes FDA to ED.
-/// Then one of these slots carried it Clean.
+/// of one identity in the first slot of w windows of `bound` + `lag` slots, and in each later one up
+/// to the first that carries it Clean. Let fewer than w times `least_left` of these slots carry Clean
+/// a frame that wins over it, of the classes FDA to ED. Then one of these slots carried it Clean.
 ///
 /// Shown by: rows WaitRows of cany_law_rows.
 pub fn carried_in_windows()
@@ -45,7 +52,7 @@ pub fn carried_in_windows()
     ensures carried { (scenario : ScenarioParts) (journal : List Step) → IsLegalScenario scenario
         → IsWithin scenario.params (run scenario journal).trace → (x : Identity) (first windows : ℕ)
         → first + windows * window scenario.params ≤ slots_run (run scenario journal)
-        → IsAwaitedThrough scenario journal x first (windows * window scenario.params)
+        → IsAwaitedUntilCarried scenario journal x first (windows * window scenario.params)
         → interference x (run scenario journal) first (windows * window scenario.params) < windows * least_left scenario.params
         → WasCarriedIn (run scenario journal).trace x first (windows * window scenario.params) }
 {}

@@ -28,7 +28,7 @@ use Rattle.cany_model.specs.Rules.Messages.{Message, message_key, message_of, me
 use Rattle.cany_text.specs.Report.{bus_lines, incarnation_lines, node_lines, message_lines, report_lines, report}
 use Rattle.cany_text.specs.ReportLines.{line_of, first_line, params_line, hypothesis_line, bus_line, is_shown, journal_line, journal_lines, node_line, entry_line, message_line}
 -- a send has one message: of the model's own words
-use Rattle.cany_model.proofs.Rules.MessageKeys.{message_at}
+use Rattle.cany_model.proofs.Rules.Services.MessageKeys.{message_at}
 use Rattle.cany_log.specs.ReportItems.{journal_text, line_count, message_text, shown_line}
 use Rattle.cany_log.specs.ReportParts.{heading_text, bus_text, nodes_and_messages_text}
 use Rattle.cany_log.proofs.PageFacts.{next_items}

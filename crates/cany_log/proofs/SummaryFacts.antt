@@ -19,7 +19,7 @@ use Rattle.cany_model.specs.Rules.Messages.{messages_of}
 use Rattle.cany_text.specs.ReportLines.{hypothesis_line, line_of}
 -- counts do not depend on the order, and a send has one message: of the model's own words
 use Rattle.cany_model.proofs.Among.{count-no, count-yes}
-use Rattle.cany_model.proofs.Rules.MessageKeys.{length-messages_of}
+use Rattle.cany_model.proofs.Rules.Services.MessageKeys.{length-messages_of}
 use Rattle.cany_text.proofs.FirstAfter.{count_by-reverse}
 use Rattle.cany_log.specs.Summary.{all_entries, entries_line, frames_line, is_lost, open_count, settled_count, settled_line, storm_line, summary, summary_lines}
 use Rattle.cany_log.specs.SummaryParts.{counts_text, ending_text}

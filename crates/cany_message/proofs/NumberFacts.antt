@@ -15,7 +15,7 @@ use Rattle.cany_model.specs.Rules.Rooms.{sends_by}
 use Rattle.cany_model.proofs.Among.{Among, Among-from_Contains, Among-weaker, count-from_Among}
 use Rattle.cany_base.specs.Limits.{most_nodes}
 use Rattle.cany_message.specs.Numbers.{message_number, message_numbers, numbers_of, frame_number}
-use Rattle.cany_model.proofs.Rules.MessageKeys.{is_service-from}
+use Rattle.cany_model.proofs.Rules.Services.MessageKeys.{is_service-from}
 use Rattle.cany_message.specs.Table.{CanTake}
 use Rattle.cany_model.proofs.Rules.RoomFacts.{count_messages}
 

@@ -19,7 +19,7 @@ use Rattle.cany_model.specs.Rules.Rooms.{waiting_room}
 use Rattle.cany_model.specs.Rules.Turn.{turn_effects}
 use Rattle.cany_model.proofs.Among.{one_at_most}
 use Rattle.cany_model.proofs.Promises.SignCounts.{turn_asks}
-use Rattle.cany_model.proofs.Rules.LifeCounts.{due_in}
+use Rattle.cany_model.proofs.Rules.Site.LifeCounts.{due_in}
 use Rattle.can_controller.specs.Controller.{ControllerState}
 use Rattle.cany_totcan.specs.Totcan.{IsTotcanOf, TotcanParts}
 use Rattle.cany_node.specs.Agenda.{IsAgendaOf}

@@ -10,7 +10,7 @@ use Rattle.cany_model.specs.Rules.Actions.{action_of, actions_of}
 use Rattle.cany_model.specs.Rules.Effect.{Effect, waiting_after, entered}
 use Rattle.cany_model.proofs.Among.{Each-first, Each-second}
 use Rattle.cany_model.proofs.Promises.SignCounts.{asks_more, els_asks, waiting_few}
-use Rattle.cany_model.proofs.Rules.DeliveryFacts.{entered-append}
+use Rattle.cany_model.proofs.Rules.Services.DeliveryFacts.{entered-append}
 use Rattle.can_controller.specs.Controller.{ControllerState}
 use Rattle.cany_node.specs.Apply.{AreApplied, AreAskable, AreDone, CanApply, NamesAskable, all_stamped, asks_sign, is_sign}
 use Rattle.cany_node.specs.Stamping.{AreStamped, stamped_effect}

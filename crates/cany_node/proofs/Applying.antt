@@ -10,7 +10,7 @@ use Rattle.cany_model.specs.Rules.Actions.{ident_of, action_of, actions_of}
 use Rattle.cany_model.specs.Rules.Effect.{Effect, Ask, Withdraw, Enter, waiting_after, entered}
 use Rattle.cany_model.specs.Bus.Frames.{Identity}
 use Rattle.cany_model.specs.Bus.Waiting.{with_frame, without}
-use Rattle.cany_model.proofs.Rules.DeliveryFacts.{entered-append}
+use Rattle.cany_model.proofs.Rules.Services.DeliveryFacts.{entered-append}
 use Rattle.can_controller.specs.Controller.{ControllerState}
 use Rattle.cany_node.specs.Apply.{AreDone, all_stamped}
 use Rattle.cany_node.specs.Stamping.{with_incarnation}

@@ -37,7 +37,7 @@ use Rattle.cany_model.proofs.Bus.Carried.{Has, is_got-true}
 use Rattle.cany_model.proofs.Rules.NumberFacts.{bound_long, message_is_small}
 use Rattle.cany_model.proofs.Rules.ProtocolFacts.{accepts, answered, closes, confirms, diffused_is_relayed, enough, enough_accept, exchanges, is_relayed, IsAskOf as IsScriptedAs, IsFounded, IsKnownBy, IsLawful, IsScripted, lives, MayAsk, MayRequest, MayWithdraw, originates, relays, requests, settles, signals}
 use Rattle.cany_model.proofs.Rules.Protocols.{are_lawful}
-use Rattle.cany_model.proofs.Rules.SignRooms.{div_grows}
+use Rattle.cany_model.proofs.Rules.Site.SignRooms.{div_grows}
 use Rattle.can_frame.specs.Identifier.{FitsFormat}
 use Rattle.can_frame.proofs.IdentityFacts.{small_fits}
 use Rattle.cany_node.specs.Apply.{MayName, NamesAskable}

@@ -15,8 +15,8 @@ use Rattle.cany_model.specs.Rules.Messages.{Message, message_key, messages_of}
 use Rattle.cany_model.specs.Rules.Sends.{is_sent_at_once}
 use Rattle.cany_model.specs.Rules.Turn.{has_asked}
 use Rattle.cany_model.proofs.Among.{Among-from_Contains}
-use Rattle.cany_model.proofs.Rules.AskedFacts.{asked_at_once, asked_of_backlog}
-use Rattle.cany_model.proofs.Rules.MessageKeys.{same_message}
+use Rattle.cany_model.proofs.Rules.Services.AskedFacts.{asked_at_once, asked_of_backlog}
+use Rattle.cany_model.proofs.Rules.Services.MessageKeys.{same_message}
 use Rattle.cany_totcan.specs.Totcan.{IsOwnTot, has_seq}
 
 -- where none of the first messages has the number

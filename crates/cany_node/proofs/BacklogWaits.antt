@@ -17,7 +17,7 @@ use Rattle.cany_model.specs.Bus.History.{has_own, is_got, is_sent}
 use Rattle.cany_model.specs.Rules.Backlog.{is_free, next_after, next_of}
 use Rattle.cany_model.specs.Rules.Messages.{Message, data_id, message_key}
 use Rattle.cany_model.specs.Rules.Totcan.{holds, is_recent, tot_of_key}
-use Rattle.cany_model.proofs.Rules.BacklogFacts.{free-after}
+use Rattle.cany_model.proofs.Rules.Services.BacklogFacts.{free-after}
 use Rattle.cany_totcan.specs.Totcan.{IsOwnTot, IsTotcanOf, TotcanParts}
 
 -- ---- the last message

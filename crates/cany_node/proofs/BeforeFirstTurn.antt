@@ -15,7 +15,7 @@ use Rattle.cany_model.specs.Rules.Turn.{scenario_for}
 use Rattle.cany_model.proofs.Promises.OwnSlotsAlone.{from_later, members_later}
 use Rattle.cany_model.proofs.Rules.IdleBeforeTakingPart.{AreIdle, IsBegun, begun_before}
 use Rattle.cany_model.proofs.Rules.MutedFacts.{turn_muted}
-use Rattle.cany_model.proofs.Rules.SendFacts.{sendable_late}
+use Rattle.cany_model.proofs.Rules.Services.SendFacts.{sendable_late}
 use Rattle.cany_edcan.specs.Edcan.{IsEdcanOf}
 use Rattle.cany_edcan.proofs.EdcanFacts.{edcan_for}
 use Rattle.cany_relcan.proofs.FollowedFacts.{relcan_for}

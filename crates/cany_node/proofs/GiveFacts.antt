@@ -12,7 +12,7 @@ use Rattle.cany_model.specs.Rules.Messages.{Message, is_from, is_service, messag
 use Rattle.cany_model.specs.Bus.Frames.{same_class}
 use Rattle.cany_model.specs.Rules.Sends.{is_sent_at_once, sendable}
 use Rattle.cany_model.proofs.Among.{Among, Among-append_right, Contains-from_Among}
-use Rattle.cany_model.proofs.Rules.SendFacts.{sendable_one}
+use Rattle.cany_model.proofs.Rules.Services.SendFacts.{sendable_one}
 use Rattle.cany_totcan.specs.Totcan.{TotcanParts, IsTotcanOf}
 use Rattle.cany_node.specs.declared.agenda.Planned.{Planned}
 use Rattle.cany_node.specs.Agenda.{AgendaParts, IsAgendaOf, IsRising, is_due, is_for, joined_by, message_from}

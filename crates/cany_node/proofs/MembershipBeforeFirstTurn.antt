@@ -10,7 +10,7 @@ use Rattle.cany_model.specs.Rules.KnowledgeOf.{knowledge_of}
 use Rattle.cany_model.specs.Rules.Knowledge.{Knowledge, knowledge_at_first}
 use Rattle.cany_model.specs.Rules.Turn.{scenario_for}
 use Rattle.cany_model.proofs.Rules.IdleBeforeTakingPart.{IsBegun}
-use Rattle.cany_model.proofs.Rules.KnowledgeFacts.{begun_knowledge}
+use Rattle.cany_model.proofs.Rules.Site.KnowledgeFacts.{begun_knowledge}
 use Rattle.cany_history.specs.History.{HistoryParts, IsHistoryOf}
 use Rattle.cany_life.specs.Life.{IsLifeOf, LifeParts}
 use Rattle.cany_views.specs.Views.{IsViewsOf, ViewsParts}

@@ -18,8 +18,8 @@ use Rattle.cany_base.specs.Cycles.{cycle_of, is_end, is_start}
 use Rattle.cany_model.specs.Rules.Views.{after_ask, start_of, with_ended, with_joiner, with_leaver}
 use Rattle.cany_model.proofs.Among.{Each-filter, Each-map, Each-weaker}
 use Rattle.cany_model.proofs.Bus.Identities.{same_class-true}
-use Rattle.cany_model.proofs.Rules.KnowledgeSteps.{IgnoresAsks, IgnoresLife, IgnoresSigns, IgnoresVector, asks_keep, found_keeps, life_keeps, met_keeps}
-use Rattle.cany_model.proofs.Rules.LifeFacts.{numbers_below}
+use Rattle.cany_model.proofs.Rules.Site.KnowledgeSteps.{IgnoresAsks, IgnoresLife, IgnoresSigns, IgnoresVector, asks_keep, found_keeps, life_keeps, met_keeps}
+use Rattle.cany_model.proofs.Rules.Site.LifeFacts.{numbers_below}
 use Rattle.cany_views.specs.Views.{IsViewsOf, ViewsParts}
 use Rattle.cany_base.proofs.SetFacts.{below_with}
 use Rattle.cany_node.specs.Membership.{KnowsOf, MembershipParts, ended_as}

@@ -23,7 +23,7 @@ use Rattle.cany_model.specs.Rules.Knowledge.{Knowledge, after_admitting, after_f
 use Rattle.cany_model.specs.Rules.Vectors.{after_exchange, exchange_at}
 use Rattle.cany_base.specs.Cycles.{is_start}
 use Rattle.cany_model.specs.Rules.Views.{after_ask, start_of, view_effects, with_ended, with_view}
-use Rattle.cany_model.proofs.Rules.VectorFacts.{knowledge_vector}
+use Rattle.cany_model.proofs.Rules.Site.VectorFacts.{knowledge_vector}
 use Rattle.cany_views.specs.Views.{IsViewsOf, ViewsParts}
 use Rattle.cany_base.proofs.SetFacts.{below_minus}
 use Rattle.cany_node.specs.Membership.{Exchanges, HasKnown, IsNextOf, IsMembershipOf, IsOfBus, KnowsOf, MembershipParts, ended_as, exchange_plain, life_plain, met_by, membership_effects}

@@ -16,7 +16,7 @@ use Rattle.cany_model.specs.Rules.Rooms.{IsAskable, waiting_room}
 use Rattle.cany_model.proofs.Among.{Each-first, Each-second, count-cons}
 use Rattle.cany_model.proofs.Rules.Waits.{AsksOnly, Each-after}
 use Rattle.cany_model.proofs.Promises.SignCounts.{asks_more, els_asks, waiting_few}
-use Rattle.cany_model.proofs.Rules.DeliveryFacts.{entered-append}
+use Rattle.cany_model.proofs.Rules.Services.DeliveryFacts.{entered-append}
 use Rattle.can_frame.specs.Identifier.{FitsFormat}
 use Rattle.can_controller.specs.Controller.{ControllerState}
 use Rattle.can_controller.specs.Waiting.{IsAscending}

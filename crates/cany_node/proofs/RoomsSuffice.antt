@@ -30,11 +30,11 @@ use Rattle.cany_model.proofs.Among.{Among, Among-drop, Among-from_Contains, Amon
 use Rattle.cany_model.proofs.Bus.Carried.{Has}
 use Rattle.cany_model.proofs.Bus.Identities.{same_identity-true}
 use Rattle.cany_model.proofs.Rules.LogFacts.{log_once, made_by}
-use Rattle.cany_model.proofs.Rules.MessageKeys.{IsOneOf, length-messages_of, same_message}
+use Rattle.cany_model.proofs.Rules.Services.MessageKeys.{IsOneOf, length-messages_of, same_message}
 use Rattle.cany_model.proofs.Rules.ProtocolFacts.{IsFoundedEntry, IsLawful, log_by}
 use Rattle.cany_model.proofs.Rules.RoomFacts.{few_waiting, pigeonhole}
-use Rattle.cany_model.proofs.Rules.SignRooms.{each_made, few_signs, is_delivered, log_parts}
-use Rattle.cany_model.proofs.Rules.ViewLog.{few_views}
+use Rattle.cany_model.proofs.Rules.Site.SignRooms.{each_made, few_signs, is_delivered, log_parts}
+use Rattle.cany_model.proofs.Rules.Site.ViewLog.{few_views}
 use Rattle.cany_message.proofs.NumberFacts.{few_sends}
 use Rattle.can_controller.specs.Waiting.{IsAscending, identity_number}
 use Rattle.cany_views.specs.Views.{asked_cycles}

@@ -29,13 +29,13 @@ use Rattle.cany_model.specs.Rules.Vectors.{brought, end_effects, ended, exchange
 use Rattle.cany_base.specs.Cycles.{cycle_of, is_start}
 use Rattle.cany_model.specs.Rules.Views.{ask_frame, join_asked, leave_asked}
 use Rattle.cany_model.proofs.Rules.ProtocolFacts.{IsFounded, IsLawful, MayAsk, accepts, confirms, exchanges, is_relayed, lives, originates, relays, requests, signals}
-use Rattle.cany_model.proofs.Rules.BacklogFacts.{backlog_is_lawful}
-use Rattle.cany_model.proofs.Rules.EdcanFacts.{edcan_is_lawful}
-use Rattle.cany_model.proofs.Rules.LifeFacts.{failures_are_lawful}
-use Rattle.cany_model.proofs.Rules.RelcanFacts.{relcan_is_lawful}
-use Rattle.cany_model.proofs.Rules.SendFacts.{sends_are_lawful}
-use Rattle.cany_model.proofs.Rules.TotcanFacts.{totcan_is_lawful}
-use Rattle.cany_model.proofs.Rules.ViewFacts.{views_are_lawful}
+use Rattle.cany_model.proofs.Rules.Services.BacklogFacts.{backlog_is_lawful}
+use Rattle.cany_model.proofs.Rules.Services.EdcanFacts.{edcan_is_lawful}
+use Rattle.cany_model.proofs.Rules.Site.LifeFacts.{failures_are_lawful}
+use Rattle.cany_model.proofs.Rules.Services.RelcanFacts.{relcan_is_lawful}
+use Rattle.cany_model.proofs.Rules.Services.SendFacts.{sends_are_lawful}
+use Rattle.cany_model.proofs.Rules.Services.TotcanFacts.{totcan_is_lawful}
+use Rattle.cany_model.proofs.Rules.Site.ViewFacts.{views_are_lawful}
 use Rattle.cany_model.proofs.Among.{count-cons}
 use Rattle.cany_model.specs.Rules.Knowledge.{Knowledge}
 use Rattle.cany_node.specs.Apply.{NamesAskable, all_stamped, asks_sign}

@@ -20,7 +20,7 @@ use Rattle.cany_model.specs.Rules.Notices.{NamesMessage}
 use Rattle.cany_model.specs.Rules.Relcan.{fell_back, has_confirm, has_copy, has_timer_ahead, is_first_got, is_timed}
 use Rattle.cany_model.proofs.Among.{Among-from_Contains}
 use Rattle.cany_model.proofs.Bus.Identities.{same_identity-true}
-use Rattle.cany_model.proofs.Rules.MessageKeys.{same_message}
+use Rattle.cany_model.proofs.Rules.Services.MessageKeys.{same_message}
 use Rattle.cany_relcan.specs.declared.timers.Timer.{Timer}
 use Rattle.cany_relcan.specs.Relcan.{RelcanParts, IsRelcanOf, data_identity}
 use Rattle.cany_relcan.specs.RelcanSteps.{is_awaited}

@@ -7,7 +7,7 @@ use Rattle.cany_base.specs.declared.message.MsgKey.{MsgKey}
 use Rattle.cany_base.specs.declared.message.SendAsk.{SendAsk}
 use Rattle.cany_model.specs.Rules.Messages.{Message, is_from, message_key, message_of, messages_after, messages_of}
 use Rattle.cany_model.proofs.Among.{count-yes, count-grows}
-use Rattle.cany_model.proofs.Rules.MessageKeys.{length-messages_of, message_at}
+use Rattle.cany_model.proofs.Rules.Services.MessageKeys.{length-messages_of, message_at}
 
 length-keys : (ms : List Message) → length (map message_key ms) ≡ length ms
 length-keys [] = refl

@@ -6,7 +6,7 @@ use Rattle.cany_base.specs.declared.format.Format.TheVariants.{Two}
 use Rattle.cany_base.specs.Params.{default_parameters_of}
 use Rattle.cany_base.specs.Scenario.{ScenarioParts}
 use Rattle.cany_model.proofs.RowWords.{scenario_of}
-use Rattle.cany_rows.proofs.ReportRows.{text_of}
+use Rattle.cany_rows.proofs.Texts.ReportRows.{text_of}
 use Rattle.cany_rows.proofs.RowWords.{send}
 
 -- two slots of forty nodes, which are all members, and one EDCAN message of the last node, without

@@ -26,7 +26,7 @@ use Rattle.cany_model.specs.Rules.Knowledge.{fda_of}
 use Rattle.cany_model.proofs.Promises.BreakFacts.{first_break_exact}
 use Rattle.cany_rows.proofs.OrderRows.{content, first_origin, OrderReport, order_report, order_row, silent_to_node_2, two_is_not_one}
 use Rattle.cany_rows.proofs.RowWords.{NodeReport, RunReport, Walk, report_in, walk_of, carries, delivers, delivers_rel, delivers_tot, ed, accept, confirm, idle, rel, report, scenario, send, send_rel, send_tot, set, slot_rule, three, tot, running_node, stopped_node, whole_run, report_of, run_of}
-use Rattle.cany_rows.proofs.SiteWords.{asks_at, els, fda, join, leave, of_members, rha, short_cycles, sign, site_row, with_asks}
+use Rattle.cany_rows.proofs.Site.SiteWords.{asks_at, els, fda, join, leave, of_members, rha, short_cycles, sign, site_row, with_asks}
 
 -- ---- a run that keeps the whole promise
 

@@ -21,7 +21,7 @@ use Rattle.cany_model.specs.Promises.Windows.{HasFew, HasFewAccepts, HasFewLifeS
 use Rattle.cany_model.specs.Rules.Effect.{Ask, Withdraw}
 use Rattle.cany_rows.proofs.OrderRows.{early_row, late_reader, order_row, starved, starved_journal}
 use Rattle.cany_rows.proofs.RowWords.{accept, carries, ed, first_accept, first_tot, idle, one_tot, report, scenario, set, slot_rule, steps, three, tot, run_of}
-use Rattle.cany_rows.proofs.SiteWords.{classes, els, of_members, rha, rounds_of, site_row}
+use Rattle.cany_rows.proofs.Site.SiteWords.{classes, els, of_members, rha, rounds_of, site_row}
 
 -- ---- what a row is written with
 

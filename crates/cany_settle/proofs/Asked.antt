@@ -14,7 +14,7 @@ use Rattle.cany_model.specs.Bus.History.{has_own}
 use Rattle.cany_model.specs.Rules.Backlog.{asked, backlog, is_free, is_past_last, next_after, next_of, one_more}
 use Rattle.cany_model.specs.Rules.Messages.{Message, data_id, message_key}
 use Rattle.cany_model.specs.Rules.Totcan.{is_recent}
-use Rattle.cany_model.proofs.Rules.BacklogFacts.{asked-few}
+use Rattle.cany_model.proofs.Rules.Services.BacklogFacts.{asked-few}
 use Rattle.cany_model.proofs.Timed.Order.TotBacklog.{at_place, next_stands}
 use Rattle.cany_model.proofs.Timed.Order.TotKept.{no_message}
 use Rattle.cany_settle.proofs.Backlogs.{AskedForUnsent, asked_is, next_in}

@@ -23,7 +23,7 @@ use Rattle.cany_model.specs.Runs.Run.{run}
 use Rattle.cany_model.proofs.Bus.States.{note_at}
 use Rattle.cany_model.proofs.Promises.Diffusion.{Lived, Turned, past_of}
 use Rattle.cany_model.proofs.Promises.EachNode.{EachRunning, IsNew, each_running}
-use Rattle.cany_model.proofs.Rules.BacklogFacts.{HasJoined, asked-few, backlog_is_lawful, backlog_joined, next_joined}
+use Rattle.cany_model.proofs.Rules.Services.BacklogFacts.{HasJoined, asked-few, backlog_is_lawful, backlog_joined, next_joined}
 use Rattle.cany_model.proofs.Rules.IdleBeforeTakingPart.{IsBegun}
 use Rattle.cany_model.proofs.Runs.Steps.{kept_at}
 use Rattle.cany_model.proofs.Timed.Common.Ages.{Sends, any_past, past}

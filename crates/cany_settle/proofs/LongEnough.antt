@@ -14,7 +14,7 @@ use Rattle.cany_model.specs.Rules.Messages.{Message, messages_after, messages_of
 use Rattle.cany_model.specs.Runs.Run.{IsWhole, all_read, run}
 use Rattle.cany_model.proofs.Among.{Among-from_Contains}
 use Rattle.cany_model.proofs.Bus.States.{note_at}
-use Rattle.cany_model.proofs.Rules.MessageKeys.{IsOneOf}
+use Rattle.cany_model.proofs.Rules.Services.MessageKeys.{IsOneOf}
 use Rattle.cany_model.proofs.Runs.Runs.{orderly}
 use Rattle.cany_model.proofs.Timed.Guarantees.{slots_are_quiet}
 use Rattle.cany_settle.specs.LastEvent.{ask_slots, greater, greatest, is_event, is_lower_slot, is_stop_slot, last_event, last_slot, send_slots}

@@ -21,8 +21,8 @@ use Rattle.cany_model.specs.Rules.Turn.{scenario_for, turn_effects}
 use Rattle.cany_model.proofs.Bus.Notes.{given-Got, given-Sent}
 use Rattle.cany_model.proofs.Bus.Seen.{length-seen}
 use Rattle.cany_model.proofs.Bus.States.{note_at}
-use Rattle.cany_model.proofs.Rules.BacklogFacts.{asked-few}
-use Rattle.cany_model.proofs.Rules.MessageKeys.{IsOneOf}
+use Rattle.cany_model.proofs.Rules.Services.BacklogFacts.{asked-few}
+use Rattle.cany_model.proofs.Rules.Services.MessageKeys.{IsOneOf}
 use Rattle.cany_model.proofs.Rules.Waits.{Each-after}
 use Rattle.cany_model.proofs.Timed.Common.Ages.{any_take, at_past, gave, past, some_past}
 use Rattle.cany_model.proofs.Timed.Common.SeenAges.{from_seen}

@@ -28,10 +28,10 @@ use Rattle.cany_model.proofs.Bus.Identities.{same_class-true}
 use Rattle.cany_model.proofs.Bus.Seen.{history-is}
 use Rattle.cany_model.proofs.Promises.EachNode.{EachRunning}
 use Rattle.cany_model.proofs.Promises.SettledFacts.{each_has_read, none_awaited}
-use Rattle.cany_model.proofs.Rules.AskedFacts.{asked_at_once, asked_of_backlog}
-use Rattle.cany_model.proofs.Rules.MessageKeys.{IsOneOf, is_service-from}
+use Rattle.cany_model.proofs.Rules.Services.AskedFacts.{asked_at_once, asked_of_backlog}
+use Rattle.cany_model.proofs.Rules.Services.MessageKeys.{IsOneOf, is_service-from}
 use Rattle.cany_model.proofs.Runs.Runs.{IsOrderly, history-length}
-use Rattle.cany_model.proofs.Rules.MessageClasses.{data_of_message, is_of_message}
+use Rattle.cany_model.proofs.Rules.Services.MessageClasses.{data_of_message, is_of_message}
 use Rattle.cany_model.proofs.Timed.Common.Ages.{any_past, gave, past, some_past}
 use Rattle.cany_model.proofs.Timed.Order.TotBacklog.{past_dropped}
 use Rattle.cany_model.proofs.Timed.Order.TotSlots.{waiting_frame}

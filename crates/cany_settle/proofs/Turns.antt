@@ -27,12 +27,12 @@ use Rattle.cany_model.specs.Rules.Totcan.{accept_effects, can_be_accepted, closi
 use Rattle.cany_model.specs.Rules.Turn.{protocols, turn_effects}
 use Rattle.cany_model.proofs.Among.{Each-append, Each-flat_map}
 use Rattle.cany_model.proofs.Bus.Identities.{same_class-true, same_identity-true}
-use Rattle.cany_model.proofs.Rules.LifeFacts.{failures_are_lawful, life_is_lawful}
-use Rattle.cany_model.proofs.Rules.MessageKeys.{IsOneOf}
-use Rattle.cany_model.proofs.Rules.MessageClasses.{is_of_message, others_of, request_other, same_other}
-use Rattle.cany_model.proofs.Rules.SendFacts.{is_sent_in-true, sendable_one}
-use Rattle.cany_model.proofs.Rules.VectorFacts.{vectors_are_lawful}
-use Rattle.cany_model.proofs.Rules.ViewFacts.{asks_are_lawful, views_are_lawful}
+use Rattle.cany_model.proofs.Rules.Site.LifeFacts.{failures_are_lawful, life_is_lawful}
+use Rattle.cany_model.proofs.Rules.Services.MessageKeys.{IsOneOf}
+use Rattle.cany_model.proofs.Rules.Services.MessageClasses.{is_of_message, others_of, request_other, same_other}
+use Rattle.cany_model.proofs.Rules.Services.SendFacts.{is_sent_in-true, sendable_one}
+use Rattle.cany_model.proofs.Rules.Site.VectorFacts.{vectors_are_lawful}
+use Rattle.cany_model.proofs.Rules.Site.ViewFacts.{asks_are_lawful, views_are_lawful}
 use Rattle.cany_model.proofs.Rules.Waits.{AsksOnly}
 
 -- ---- classes

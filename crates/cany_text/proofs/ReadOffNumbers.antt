@@ -48,8 +48,8 @@ use Rattle.cany_model.proofs.Promises.WaitingIsAskable.{all_belong, readable_for
 use Rattle.cany_model.proofs.Promises.OwnSlotsAlone.{run_numbered}
 use Rattle.cany_model.proofs.Rules.NumberFacts.{IsSmall, belongs_small}
 use Rattle.cany_model.proofs.Rules.ProtocolFacts.{IsFoundedEntry}
-use Rattle.cany_model.proofs.Rules.SignRooms.{AreRead, each_made}
-use Rattle.cany_model.proofs.Rules.KnowledgeNodes.{knowledge_of_bus}
+use Rattle.cany_model.proofs.Rules.Site.SignRooms.{AreRead, each_made}
+use Rattle.cany_model.proofs.Rules.Site.KnowledgeNodes.{knowledge_of_bus}
 use Rattle.cany_text.proofs.ReadOffEntries.{AreBytes, IsWritable}
 use Rattle.cany_text.proofs.ReadOffLogs.{HasShortNumbers, ended_log}
 

@@ -14,7 +14,7 @@ use Rattle.cany_model.specs.Rules.Messages.{IsOfMessage, Message, is_service, me
 use Rattle.cany_model.specs.Rules.Notices.{NamesMessage}
 use Rattle.cany_model.specs.Rules.Totcan.{delivered, done, has_closing_ahead, can_be_accepted, is_recent, tot_in, tot_of_key, with_new}
 use Rattle.cany_model.proofs.Among.{Among-from_Contains}
-use Rattle.cany_model.proofs.Rules.MessageKeys.{same_message}
+use Rattle.cany_model.proofs.Rules.Services.MessageKeys.{same_message}
 use Rattle.cany_totcan.specs.declared.queue.Placed.{Placed}
 use Rattle.cany_totcan.specs.Queue.{is_at, placed_from, placed_in}
 use Rattle.cany_totcan.specs.Totcan.{IsTotcanOf, TotcanParts}

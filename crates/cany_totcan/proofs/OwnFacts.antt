@@ -18,7 +18,7 @@ use Rattle.cany_model.specs.Rules.Messages.{Message, data_id, is_from, messages_
 use Rattle.cany_model.specs.Rules.Notices.{BelongsTo, IsDataOf}
 use Rattle.cany_model.specs.Rules.Totcan.{holds, tot_of_key}
 use Rattle.cany_model.proofs.Among.{Among-from_Contains, Each-weaker, count-cons, count-yes}
-use Rattle.cany_model.proofs.Rules.MessageKeys.{IsOneOf}
+use Rattle.cany_model.proofs.Rules.Services.MessageKeys.{IsOneOf}
 use Rattle.cany_totcan.specs.declared.backlog.OwnMessage.{OwnMessage}
 use Rattle.cany_totcan.specs.Backlog.{BacklogParts, blank, own_at}
 use Rattle.cany_totcan.specs.Totcan.{IsBacklogOf, key_of, place_of}

@@ -21,7 +21,7 @@ use Rattle.cany_model.specs.Rules.Notices.{NamesMessage}
 use Rattle.cany_model.specs.Rules.Rooms.{sends_by}
 use Rattle.cany_model.specs.Rules.Totcan.{message_in}
 use Rattle.cany_model.proofs.Among.{Among, Among-from_Contains, Among-weaker, Each-append, Each-filter, Each-weaker, count-cons, count-no, count-yes}
-use Rattle.cany_model.proofs.Rules.MessageKeys.{is_service-from}
+use Rattle.cany_model.proofs.Rules.Services.MessageKeys.{is_service-from}
 use Rattle.cany_model.proofs.Rules.RoomFacts.{count_messages, pigeonhole}
 use Rattle.cany_totcan.specs.declared.queue.Placed.{Placed}
 use Rattle.cany_totcan.specs.MessageSet.{MessageSetParts, has_message}

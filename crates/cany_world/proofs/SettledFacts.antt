@@ -24,7 +24,7 @@ use Rattle.cany_model.proofs.Bus.Seen.{history-is}
 use Rattle.cany_model.specs.Promises.Settled.{came_too_late, is_ahead, is_awaited, is_settled, origin_has_asked}
 use Rattle.cany_model.specs.Rules.Messages.{Message, frames_named, frames_of, message_key, message_of, messages_of}
 use Rattle.cany_model.proofs.Rules.ErrorFacts.{error_ahead, error_asked}
-use Rattle.cany_model.proofs.Rules.MessageKeys.{length-messages_of, message_at}
+use Rattle.cany_model.proofs.Rules.Services.MessageKeys.{length-messages_of, message_at}
 use Rattle.cany_model.proofs.Rules.NumberFacts.{IsBelow, message_below}
 use Rattle.can_controller.specs.Controller.{ControllerState}
 use Rattle.cany_node.specs.Node.{NodeParts, IsNodeOf}

@@ -39,10 +39,10 @@ use Rattle.cany_model.proofs.Promises.Firsts.{carried_has_first, first_some}
 use Rattle.cany_model.proofs.Promises.OneFrame.{data_carries, only_frame}
 use Rattle.cany_model.proofs.Promises.SettledFacts.{settled_asked_or_late, settled_read, settled_waits}
 use Rattle.cany_model.proofs.Promises.Sources.{IsSourced, sourced}
-use Rattle.cany_model.proofs.Rules.AskedFacts.{asked_at_once}
-use Rattle.cany_model.proofs.Rules.DeliveryFacts.{DeliversAtOnce, entry_from_brought}
+use Rattle.cany_model.proofs.Rules.Services.AskedFacts.{asked_at_once}
+use Rattle.cany_model.proofs.Rules.Services.DeliveryFacts.{DeliversAtOnce, entry_from_brought}
 use Rattle.cany_model.proofs.Rules.LogFacts.{log_has, log_split, made_by}
-use Rattle.cany_model.proofs.Rules.MessageKeys.{IsOneOf}
+use Rattle.cany_model.proofs.Rules.Services.MessageKeys.{IsOneOf}
 use Rattle.cany_model.proofs.Runs.FrameInvariants.{history_note}
 use Rattle.cany_model.proofs.Runs.Runs.{orderly}
 use Rattle.cany_model.proofs.Rules.IdleBeforeTakingPart.{IsBegun}

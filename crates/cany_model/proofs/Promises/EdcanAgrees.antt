@@ -22,10 +22,10 @@ use Rattle.cany_model.proofs.Promises.Agreement.{owed_carried}
 use Rattle.cany_model.proofs.Promises.Agrees.{Owes, Rules, duty_of, run_agrees}
 use Rattle.cany_model.proofs.Among.{count-no}
 use Rattle.cany_model.proofs.Promises.Diffusion.{IsDiffused, copies_got, copies_grow, IsAnswered}
-use Rattle.cany_model.proofs.Rules.MessageKeys.{IsOneOf}
+use Rattle.cany_model.proofs.Rules.Services.MessageKeys.{IsOneOf}
 use Rattle.cany_model.proofs.Rules.TurnFacts.{asks_at_its_slot, turn_withdraws, turn_cause_data, turn_relays}
-use Rattle.cany_model.proofs.Rules.DeliveryFacts.{DeliversAtOnce}
-use Rattle.cany_model.proofs.Rules.EdcanFacts.{edcan_delivers}
+use Rattle.cany_model.proofs.Rules.Services.DeliveryFacts.{DeliversAtOnce}
+use Rattle.cany_model.proofs.Rules.Services.EdcanFacts.{edcan_delivers}
 use Rattle.cany_model.proofs.Rules.IdleBeforeTakingPart.{begun_copies, begun_short}
 use Rattle.cany_model.proofs.Rules.ProtocolFacts.{MayStart, is_diffused}
 use Rattle.cany_model.proofs.Rules.Protocols.{edcan_is_one}

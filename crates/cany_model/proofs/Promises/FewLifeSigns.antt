@@ -31,7 +31,7 @@ use Rattle.cany_model.proofs.Promises.Diffusion.{Lived, Turned, past_of}
 use Rattle.cany_model.proofs.Promises.FewLifeSignsRun.{IsNodesWithin, SendsFirst, each_within}
 use Rattle.cany_model.proofs.Promises.FewLifeSignsWaiting.{IsOwnSign, greatest_last, left, next_number, own_sign, turn_asks_due, turn_idle, turn_idle_numbers, turn_keeps, turn_more, turn_numbers, turn_partly, turn_replaces}
 use Rattle.cany_model.proofs.Promises.SignCounts.{is_els, sent_one}
-use Rattle.cany_model.proofs.Rules.LifeCounts.{due_at, due_in, last_cases}
+use Rattle.cany_model.proofs.Rules.Site.LifeCounts.{due_at, due_in, last_cases}
 use Rattle.cany_model.proofs.Rules.RoomFacts.{is_in}
 
 -- ---- the signs that a node has sent

@@ -21,7 +21,7 @@ use Rattle.cany_model.proofs.Bus.Identities.{same_class-true, same_class_self, s
 use Rattle.cany_model.proofs.Rules.Waits.{Asks, AsksOnly, Withdraws, Each-after, waits-kept, waits-without, waits_after}
 use Rattle.cany_model.proofs.Promises.FewLifeSignsOrder.{NoneBefore}
 use Rattle.cany_model.proofs.Promises.SignCounts.{asks_more, els_asks, els_test, is_els, put_one, turn_asks, waiting_few, without_fewer, without_one}
-use Rattle.cany_model.proofs.Rules.LifeCounts.{due_in}
+use Rattle.cany_model.proofs.Rules.Site.LifeCounts.{due_in}
 use Rattle.cany_model.proofs.Rules.ProtocolFacts.{IsFounded, MayAsk, MayWithdraw, accepts, answered, closes, confirms, data_is_no_other, enough, enough_accept, exchanges, is_diffused, is_relayed, lives, originates, relays, request_class, requests, settles, signals}
 use Rattle.cany_model.proofs.Rules.Protocols.{life_is_one}
 use Rattle.cany_model.proofs.Rules.TurnFacts.{turn_effect, turn_has, turn_only}

@@ -34,7 +34,7 @@ use Rattle.cany_model.proofs.Promises.WaitingIsAskable.{AllBelong, all_belong, f
 use Rattle.cany_model.proofs.Promises.OneFrame.{data_carries, one_service}
 use Rattle.cany_model.proofs.Promises.Sources.{IsSent, IsSourced, sourced}
 use Rattle.cany_model.proofs.Rules.LogFacts.{log_once, log_split, made_by}
-use Rattle.cany_model.proofs.Rules.MessageKeys.{data_class-one}
+use Rattle.cany_model.proofs.Rules.Services.MessageKeys.{data_class-one}
 use Rattle.cany_model.proofs.Rules.ProtocolFacts.{IsFoundedEntry, IsLawful, IsSignal, log_by, is_data}
 
 -- ---- what was read by some slot, was carried by then

@@ -30,10 +30,10 @@ use Rattle.cany_model.proofs.Runs.Steps.{Each-kept}
 use Rattle.cany_model.proofs.Promises.Diffusion.{Lived, Turned, past_of}
 use Rattle.cany_model.proofs.Promises.EachNode.{EachRunning, IsNew, IsNodes, each_running}
 use Rattle.cany_model.proofs.Promises.LateVectors.{asks_in_cycle}
-use Rattle.cany_model.proofs.Rules.CycleFacts.{IsExchangeOf, in_exchange, in_start}
+use Rattle.cany_model.proofs.Rules.Site.CycleFacts.{IsExchangeOf, in_exchange, in_start}
 use Rattle.cany_model.proofs.Rules.ProtocolFacts.{MayAsk, vector_asked}
 use Rattle.cany_model.proofs.Rules.TurnFacts.{turn_only}
-use Rattle.cany_model.proofs.Rules.VectorFacts.{vector_met}
+use Rattle.cany_model.proofs.Rules.Site.VectorFacts.{vector_met}
 
 -- ---- what is said of a frame
 

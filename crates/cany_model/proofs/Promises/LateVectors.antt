@@ -23,7 +23,7 @@ use Rattle.cany_model.proofs.Runs.Runs.{IsOrderly, history-length, orderly}
 use Rattle.cany_model.proofs.Bus.Seen.{Numbered, seen_idle, seen_plain}
 use Rattle.cany_model.proofs.Runs.Steps.{MayTurn, after_turn-history, after_turn-trace, next_notice}
 use Rattle.cany_model.proofs.Promises.OwnSlotsAlone.{run_numbered}
-use Rattle.cany_model.proofs.Rules.CycleFacts.{cycle_before}
+use Rattle.cany_model.proofs.Rules.Site.CycleFacts.{cycle_before}
 use Rattle.cany_model.proofs.Rules.ProtocolFacts.{MayAsk, vector_asked}
 use Rattle.cany_model.proofs.Rules.TurnFacts.{turn_only}
 

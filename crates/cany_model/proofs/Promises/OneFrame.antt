@@ -12,7 +12,7 @@ use Rattle.cany_model.specs.Rules.Messages.{Message, messages_of, data_frame, da
 use Rattle.cany_model.specs.Bus.State.{RunState}
 use Rattle.cany_model.proofs.Among.{Among, Among-which, Among-from_Contains}
 use Rattle.cany_model.proofs.Bus.Carried.{Carries}
-use Rattle.cany_model.proofs.Rules.MessageKeys.{IsOneOf, data_class-one, same_message}
+use Rattle.cany_model.proofs.Rules.Services.MessageKeys.{IsOneOf, data_class-one, same_message}
 use Rattle.cany_model.proofs.Promises.Sources.{IsSent, IsSourced}
 use Rattle.cany_model.proofs.Rules.ProtocolFacts.{is_data}
 

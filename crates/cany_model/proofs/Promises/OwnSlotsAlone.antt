@@ -23,11 +23,11 @@ use Rattle.cany_model.proofs.Bus.Notes.{note_of-slot, sender_waits}
 use Rattle.cany_model.proofs.Bus.Restarts.{after_restarts-trace, restarts_or_stays}
 use Rattle.cany_model.proofs.Runs.Runs.{IsKept, IsOrderly, along_run, history-length, opening_within}
 use Rattle.cany_model.proofs.Bus.Seen.{IsSeenPast, Numbered, hidden_why, history-is, seen_past_of}
-use Rattle.cany_model.proofs.Rules.NoEarlyVectors.{HearsNoEarly, carries_frame, hears_no_early_of}
+use Rattle.cany_model.proofs.Rules.Site.NoEarlyVectors.{HearsNoEarly, carries_frame, hears_no_early_of}
 use Rattle.cany_model.proofs.Bus.States.{node_at-opening, note_at, runs_within}
 use Rattle.cany_model.proofs.Runs.Steps.{MayTurn, after_slot-present, after_slot-trace, after_slot-waiting, after_turn-history, after_turn-node, after_turn-present, after_turn-trace, kept_at, next_notice, running_before_slot, each_turned, Each-kept}
 use Rattle.cany_model.proofs.Rules.Waits.{AsksOnly, Each-after}
-use Rattle.cany_model.proofs.Rules.FirstCycle.{asks_late}
+use Rattle.cany_model.proofs.Rules.Site.FirstCycle.{asks_late}
 use Rattle.cany_model.proofs.Rules.MutedFacts.{does_nothing}
 use Rattle.cany_model.proofs.Rules.TurnFacts.{turn_only}
 

@@ -29,15 +29,15 @@ use Rattle.cany_model.proofs.Promises.Confirms.{IsConfirmed, confirm_carried, co
 use Rattle.cany_model.proofs.Promises.CleanSlots.{clean_from_success}
 use Rattle.cany_model.proofs.Promises.Diffusion.{IsDiffused, IsAnswered}
 use Rattle.cany_model.proofs.Bus.Identities.{same_class_self}
-use Rattle.cany_model.proofs.Rules.MessageKeys.{IsOneOf}
+use Rattle.cany_model.proofs.Rules.Services.MessageKeys.{IsOneOf}
 use Rattle.cany_model.proofs.Promises.SettledFacts.{settled_none_ahead}
-use Rattle.cany_model.proofs.Rules.Timers.{overdue_falls_back}
+use Rattle.cany_model.proofs.Rules.Services.Timers.{overdue_falls_back}
 use Rattle.cany_model.proofs.Rules.TurnFacts.{asks_at_its_slot, rel_cause, turn_withdraws, turn_falls_back}
-use Rattle.cany_model.proofs.Rules.DeliveryFacts.{DeliversAtOnce}
+use Rattle.cany_model.proofs.Rules.Services.DeliveryFacts.{DeliversAtOnce}
 use Rattle.cany_model.proofs.Rules.IdleBeforeTakingPart.{begun_fell_back, begun_short}
 use Rattle.cany_model.proofs.Rules.ProtocolFacts.{MayStart, is_diffused}
 use Rattle.cany_model.proofs.Rules.Protocols.{relcan_is_one}
-use Rattle.cany_model.proofs.Rules.RelcanFacts.{fell_copies, fell_stays, relcan_delivers}
+use Rattle.cany_model.proofs.Rules.Services.RelcanFacts.{fell_copies, fell_stays, relcan_delivers}
 
 -- a node is to send the frame of a RELCAN message once it fell back, or as origin once it has read
 -- its slot

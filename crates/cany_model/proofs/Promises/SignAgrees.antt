@@ -42,8 +42,8 @@ use Rattle.cany_model.proofs.Rules.IdleBeforeTakingPart.{IsBegun}
 use Rattle.cany_model.proofs.Rules.LogFacts.{log_has, log_split, made_by}
 use Rattle.cany_model.proofs.Rules.ProtocolFacts.{IsFoundedEntry}
 use Rattle.cany_model.proofs.Rules.Protocols.{failures_are_one}
-use Rattle.cany_model.proofs.Rules.SignFacts.{asked_is_known, known_is_entered, sign_is_asked}
-use Rattle.cany_model.proofs.Rules.KnowledgeFacts.{begun_knows, got_is_known, known_since, known_stays}
+use Rattle.cany_model.proofs.Rules.Site.SignFacts.{asked_is_known, known_is_entered, sign_is_asked}
+use Rattle.cany_model.proofs.Rules.Site.KnowledgeFacts.{begun_knows, got_is_known, known_since, known_stays}
 use Rattle.cany_model.proofs.Rules.TurnFacts.{fda_cause, turn_has, turn_withdraws}
 
 -- ---- the duty

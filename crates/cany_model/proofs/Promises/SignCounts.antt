@@ -27,7 +27,7 @@ use Rattle.cany_model.proofs.Runs.Steps.{MayTurn, after_turn-history, after_turn
 use Rattle.cany_model.proofs.Promises.Diffusion.{Lived, past_of}
 use Rattle.cany_model.proofs.Promises.EachNode.{EachRunning, IsNodes}
 use Rattle.cany_model.proofs.Bus.Seen.{history-is}
-use Rattle.cany_model.proofs.Rules.LifeCounts.{asked_few, due_in, signs_asked}
+use Rattle.cany_model.proofs.Rules.Site.LifeCounts.{asked_few, due_in, signs_asked}
 use Rattle.cany_model.proofs.Rules.LogFacts.{total}
 use Rattle.cany_model.proofs.Rules.ProtocolFacts.{IsFounded, IsLawful}
 use Rattle.cany_model.proofs.Rules.Protocols.{are_lawful}

@@ -38,8 +38,8 @@ use Rattle.cany_model.proofs.Promises.Diffusion.{past_of}
 use Rattle.cany_model.proofs.Promises.OwnSlotsAlone.{run_numbered}
 use Rattle.cany_model.proofs.Promises.KeptVectors.{CarriesVector, CoversVector, IsSentWith, kept_vectors, vector_at}
 use Rattle.cany_model.proofs.Promises.LateVectors.{IsReadLate, notice_late}
-use Rattle.cany_model.proofs.Rules.CycleFacts.{IsExchangeOf, exchange_slot}
-use Rattle.cany_model.proofs.Rules.KnowledgeNodes.{IsVectorOfBus, first_members, knowledge_of_bus}
+use Rattle.cany_model.proofs.Rules.Site.CycleFacts.{IsExchangeOf, exchange_slot}
+use Rattle.cany_model.proofs.Rules.Site.KnowledgeNodes.{IsVectorOfBus, first_members, knowledge_of_bus}
 
 -- ---- the vector that a frame carries
 

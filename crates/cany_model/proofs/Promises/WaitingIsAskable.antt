@@ -43,7 +43,7 @@ use Rattle.cany_model.proofs.Rules.Waits.{AsksOnly}
 use Rattle.cany_model.proofs.Promises.EachNode.{EachRunning, nodes_at_first, nodes_kept}
 use Rattle.cany_model.proofs.Promises.OwnSlotsAlone.{AllWaitForOwnSlots}
 use Rattle.cany_model.proofs.Promises.SignCounts.{Counted, signs_counted, signs_spaced}
-use Rattle.cany_model.proofs.Rules.SignRooms.{div_grows}
+use Rattle.cany_model.proofs.Rules.Site.SignRooms.{div_grows}
 use Rattle.cany_model.proofs.Rules.ProtocolFacts.{IsScripted, MayAsk, MayRequest, accepts, confirms, exchanges, is_relayed, lives, originates, relays, request_now, requests, signals}
 use Rattle.cany_model.proofs.Rules.TurnFacts.{turn_only}
 

@@ -15,7 +15,7 @@ use Rattle.cany_model.specs.Rules.Log.{log_from}
 use Rattle.cany_model.specs.Rules.Protocol.{Protocol}
 use Rattle.cany_model.specs.Rules.Turn.{protocols, turn_effects}
 use Rattle.cany_model.proofs.Among.{Among, Among-append_cases, Among-append_left, Among-append_right, Among-from_flat_map, Among-which, Among-with, Each-weaker, one_if}
-use Rattle.cany_model.proofs.Rules.DeliveryFacts.{entered-append}
+use Rattle.cany_model.proofs.Rules.Services.DeliveryFacts.{entered-append}
 use Rattle.cany_model.proofs.Rules.ProtocolFacts.{IsFounded, IsFoundedEntry, IsLawful, log_by}
 use Rattle.cany_model.proofs.Rules.Protocols.{IsProtocol, are_lawful, one_delivers}
 use Rattle.cany_model.proofs.Rules.TurnFacts.{turn_has}

@@ -34,7 +34,7 @@ use Rattle.cany_model.proofs.Among.{Among, Among-gives, Among-weaker, Among-with
 use Rattle.cany_model.proofs.Bus.Carried.{Has, is_got-from}
 use Rattle.cany_model.proofs.Rules.Waits.{Asks, Withdraws, AsksOnly}
 use Rattle.cany_model.proofs.Rules.IdleBeforeTakingPart.{IsBegun}
-use Rattle.cany_model.proofs.Rules.MessageKeys.{IsOneOf, same_message}
+use Rattle.cany_model.proofs.Rules.Services.MessageKeys.{IsOneOf, same_message}
 
 -- ---- one effect
 

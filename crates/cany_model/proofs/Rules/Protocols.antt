@@ -15,15 +15,15 @@ use Rattle.cany_model.specs.Rules.Sends.{scripted_sends}
 use Rattle.cany_model.specs.Rules.Totcan.{totcan}
 use Rattle.cany_model.specs.Rules.Turn.{protocols}
 use Rattle.cany_model.proofs.Among.{Among}
-use Rattle.cany_model.proofs.Rules.BacklogFacts.{backlog_is_lawful}
-use Rattle.cany_model.proofs.Rules.EdcanFacts.{edcan_is_lawful}
-use Rattle.cany_model.proofs.Rules.LifeFacts.{failures_are_lawful, life_is_lawful}
+use Rattle.cany_model.proofs.Rules.Services.BacklogFacts.{backlog_is_lawful}
+use Rattle.cany_model.proofs.Rules.Services.EdcanFacts.{edcan_is_lawful}
+use Rattle.cany_model.proofs.Rules.Site.LifeFacts.{failures_are_lawful, life_is_lawful}
 use Rattle.cany_model.proofs.Rules.ProtocolFacts.{IsLawful}
-use Rattle.cany_model.proofs.Rules.RelcanFacts.{relcan_is_lawful}
-use Rattle.cany_model.proofs.Rules.SendFacts.{sends_are_lawful}
-use Rattle.cany_model.proofs.Rules.TotcanFacts.{totcan_is_lawful}
-use Rattle.cany_model.proofs.Rules.VectorFacts.{vectors_are_lawful}
-use Rattle.cany_model.proofs.Rules.ViewFacts.{asks_are_lawful, views_are_lawful}
+use Rattle.cany_model.proofs.Rules.Services.RelcanFacts.{relcan_is_lawful}
+use Rattle.cany_model.proofs.Rules.Services.SendFacts.{sends_are_lawful}
+use Rattle.cany_model.proofs.Rules.Services.TotcanFacts.{totcan_is_lawful}
+use Rattle.cany_model.proofs.Rules.Site.VectorFacts.{vectors_are_lawful}
+use Rattle.cany_model.proofs.Rules.Site.ViewFacts.{asks_are_lawful, views_are_lawful}
 
 pub are_lawful : AllByRecursion IsLawful protocols
 are_lawful = (

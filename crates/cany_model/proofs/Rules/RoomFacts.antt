@@ -22,7 +22,7 @@ use Rattle.cany_base.specs.Cycles.{cycle_of}
 use Rattle.cany_model.specs.Rules.Views.{ask_of}
 use Rattle.cany_model.proofs.Among.{Among, Among-append_left, Among-append_right, Among-from_Contains, Among-weaker, Each-weaker, count-cons, count-from_Among, count-no, count-yes, one_if}
 use Rattle.cany_model.proofs.Bus.Identities.{same_class-true, same_identity-from}
-use Rattle.cany_model.proofs.Rules.MessageKeys.{is_service-from}
+use Rattle.cany_model.proofs.Rules.Services.MessageKeys.{is_service-from}
 
 -- ---- the rooms of the classes
 

@@ -30,13 +30,13 @@ use Rattle.cany_model.specs.Rules.Knowledge.{FailureSign, fda_frame, fda_of, fou
 use Rattle.cany_model.specs.Rules.Totcan.{delivered_now, totcan}
 use Rattle.cany_model.specs.Rules.Turn.{turn_effects}
 use Rattle.cany_model.proofs.Among.{Each-append, count-no}
-use Rattle.cany_model.proofs.Rules.BacklogFacts.{asks_enter_none as next_enters_none}
-use Rattle.cany_model.proofs.Rules.DeliveryFacts.{DeliversAtOnce, EntersNone, entered-append, entered-none, entries_at, entries_with}
-use Rattle.cany_model.proofs.Rules.EdcanFacts.{edcan_delivers}
-use Rattle.cany_model.proofs.Rules.MembershipEntries.{asks_enter_none, vectors_enter_none}
-use Rattle.cany_model.proofs.Rules.RelcanFacts.{relcan_delivers}
-use Rattle.cany_model.proofs.Rules.SendFacts.{asks_enter_none as sends_enter_none}
-use Rattle.cany_model.proofs.Rules.TotcanFacts.{totcan_enters}
+use Rattle.cany_model.proofs.Rules.Services.BacklogFacts.{asks_enter_none as next_enters_none}
+use Rattle.cany_model.proofs.Rules.Services.DeliveryFacts.{DeliversAtOnce, EntersNone, entered-append, entered-none, entries_at, entries_with}
+use Rattle.cany_model.proofs.Rules.Services.EdcanFacts.{edcan_delivers}
+use Rattle.cany_model.proofs.Rules.Site.MembershipEntries.{asks_enter_none, vectors_enter_none}
+use Rattle.cany_model.proofs.Rules.Services.RelcanFacts.{relcan_delivers}
+use Rattle.cany_model.proofs.Rules.Services.SendFacts.{asks_enter_none as sends_enter_none}
+use Rattle.cany_model.proofs.Rules.Services.TotcanFacts.{totcan_enters}
 
 -- ---- deliveries
 

@@ -23,17 +23,17 @@ use Rattle.cany_model.specs.Rules.Totcan.{totcan}
 use Rattle.cany_model.specs.Rules.Turn.{protocols, turn_effects}
 use Rattle.cany_model.proofs.Among.{Among, Among-flat_map, Among-from_flat_map, Among-weaker, Among-which, Among-with, Each-flat_map, Each-weaker}
 use Rattle.cany_model.proofs.Rules.Waits.{Asks, Withdraws, AsksOnly}
-use Rattle.cany_model.proofs.Rules.BacklogFacts.{backlog_is_lawful}
-use Rattle.cany_model.proofs.Rules.EdcanFacts.{edcan_is_lawful, edcan_relays}
-use Rattle.cany_model.proofs.Rules.LifeFacts.{failures_are_lawful, life_is_lawful}
-use Rattle.cany_model.proofs.Rules.MessageKeys.{IsOneOf}
+use Rattle.cany_model.proofs.Rules.Services.BacklogFacts.{backlog_is_lawful}
+use Rattle.cany_model.proofs.Rules.Services.EdcanFacts.{edcan_is_lawful, edcan_relays}
+use Rattle.cany_model.proofs.Rules.Site.LifeFacts.{failures_are_lawful, life_is_lawful}
+use Rattle.cany_model.proofs.Rules.Services.MessageKeys.{IsOneOf}
 use Rattle.cany_model.proofs.Rules.ProtocolFacts.{IsFounded, IsLawful, MayAsk, MayStart, ask_of, asked_start, asks_named, asks_only, is_diffused, withdrawal_of}
 use Rattle.cany_model.proofs.Rules.Protocols.{IsProtocol, are_lawful, edcan_is_one, relcan_is_one, sends_are_one}
-use Rattle.cany_model.proofs.Rules.RelcanFacts.{relcan_asks, relcan_falls_back, relcan_is_lawful}
-use Rattle.cany_model.proofs.Rules.SendFacts.{sends_are_lawful, sends_ask, sends_cause}
-use Rattle.cany_model.proofs.Rules.TotcanFacts.{totcan_is_lawful}
-use Rattle.cany_model.proofs.Rules.VectorFacts.{vectors_are_lawful}
-use Rattle.cany_model.proofs.Rules.ViewFacts.{asks_are_lawful, views_are_lawful}
+use Rattle.cany_model.proofs.Rules.Services.RelcanFacts.{relcan_asks, relcan_falls_back, relcan_is_lawful}
+use Rattle.cany_model.proofs.Rules.Services.SendFacts.{sends_are_lawful, sends_ask, sends_cause}
+use Rattle.cany_model.proofs.Rules.Services.TotcanFacts.{totcan_is_lawful}
+use Rattle.cany_model.proofs.Rules.Site.VectorFacts.{vectors_are_lawful}
+use Rattle.cany_model.proofs.Rules.Site.ViewFacts.{asks_are_lawful, views_are_lawful}
 
 -- ---- the list
 

@@ -5,7 +5,7 @@ use Rattle.cany_base.specs.declared.message.SendAsk.{SendAsk}
 use Rattle.cany_base.specs.Scenario.{ScenarioParts}
 use Rattle.cany_model.specs.Rules.Messages.{messages_of}
 use Rattle.cany_model.specs.Runs.Run.{run}
-use Rattle.cany_model.proofs.Rules.MessageKeys.{length-messages_of}
+use Rattle.cany_model.proofs.Rules.Services.MessageKeys.{length-messages_of}
 use Rattle.cany_check.specs.declared.record.MessageRecord.{MessageRecord}
 use Rattle.cany_check.specs.Account.{unsent_record}
 use Rattle.cany_check.proofs.message_records.unsent_records.Goals as goal

@@ -1,4 +1,4 @@
-use Rattle.cany_laws.proofs.AdmissionTaken.{admitted_by_each}
+use Rattle.cany_laws.proofs.Joins.AdmissionTaken.{admitted_by_each}
 use Rattle.cany_laws.proofs.admission.admission.Goals as goal
 
 pub returns : goal.returns

@@ -1,4 +1,4 @@
-use Rattle.cany_laws.proofs.AdmissionKnown.{known_taken_in}
+use Rattle.cany_laws.proofs.Joins.AdmissionKnown.{known_taken_in}
 use Rattle.cany_laws.proofs.admission.known_admission.Goals as goal
 
 pub returns : goal.returns

@@ -1,4 +1,4 @@
-use Rattle.cany_laws.proofs.AlarmLaws.{taken_for_failed_nowhere}
+use Rattle.cany_laws.proofs.FalseAlarms.AlarmLaws.{taken_for_failed_nowhere}
 use Rattle.cany_laws.proofs.alarms.accuracy.Goals as goal
 
 pub returns : goal.returns

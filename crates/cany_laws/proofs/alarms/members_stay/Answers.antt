@@ -1,4 +1,4 @@
-use Rattle.cany_laws.proofs.StayingLaws.{stays_unasked, stays_uncarried}
+use Rattle.cany_laws.proofs.Members.StayingLaws.{stays_unasked, stays_uncarried}
 use Rattle.cany_laws.proofs.alarms.members_stay.Goals as goal
 
 pub returns : goal.returns

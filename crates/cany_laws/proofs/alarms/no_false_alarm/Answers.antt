@@ -1,4 +1,4 @@
-use Rattle.cany_laws.proofs.AlarmLaws.{no_false_alarm}
+use Rattle.cany_laws.proofs.FalseAlarms.AlarmLaws.{no_false_alarm}
 use Rattle.cany_laws.proofs.alarms.no_false_alarm.Goals as goal
 
 pub returns : goal.returns

@@ -1,4 +1,4 @@
-use Rattle.cany_laws.proofs.CarriedConfirmed.{confirmed_once}
+use Rattle.cany_laws.proofs.Frames.CarriedConfirmed.{confirmed_once}
 use Rattle.cany_laws.proofs.carried.confirmed_once.Goals as goal
 
 pub returns : goal.returns

@@ -1,7 +1,7 @@
 use Rattle.cany_model.proofs.Among.{Among-from_Contains}
 use Rattle.cany_model.specs.Rules.Messages.{messages_of}
-use Rattle.cany_laws.proofs.WaitEd.{ed_times}
-use Rattle.cany_laws.proofs.WaitRel.{rel_times}
+use Rattle.cany_laws.proofs.Waiting.WaitEd.{ed_times}
+use Rattle.cany_laws.proofs.Waiting.WaitRel.{rel_times}
 use Rattle.cany_laws.proofs.carried.few_data_frames.Goals as goal
 
 pub returns : goal.returns

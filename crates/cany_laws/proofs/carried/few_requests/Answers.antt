@@ -1,4 +1,4 @@
-use Rattle.cany_laws.proofs.CarriedRequests.{few_requests}
+use Rattle.cany_laws.proofs.Frames.CarriedRequests.{few_requests}
 use Rattle.cany_laws.proofs.carried.few_requests.Goals as goal
 
 pub returns : goal.returns

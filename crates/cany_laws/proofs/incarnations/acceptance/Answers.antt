@@ -1,4 +1,4 @@
-use Rattle.cany_laws.proofs.EachView.{accepted_by_each}
+use Rattle.cany_laws.proofs.Members.EachView.{accepted_by_each}
 use Rattle.cany_laws.proofs.incarnations.acceptance.Goals as goal
 
 pub returns : goal.returns

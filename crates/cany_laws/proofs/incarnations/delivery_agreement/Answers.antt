@@ -1,4 +1,4 @@
-use Rattle.cany_laws.proofs.DeliveredByEach.{delivered_by_each}
+use Rattle.cany_laws.proofs.Logs.DeliveredByEach.{delivered_by_each}
 use Rattle.cany_laws.proofs.incarnations.delivery_agreement.Goals as goal
 
 pub returns : goal.returns

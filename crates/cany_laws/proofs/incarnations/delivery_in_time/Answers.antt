@@ -1,4 +1,4 @@
-use Rattle.cany_laws.proofs.DeliveredInTime.{delivered_in_time}
+use Rattle.cany_laws.proofs.Logs.DeliveredInTime.{delivered_in_time}
 use Rattle.cany_laws.proofs.incarnations.delivery_in_time.Goals as goal
 
 pub returns : goal.returns

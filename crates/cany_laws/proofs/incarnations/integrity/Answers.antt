@@ -1,4 +1,4 @@
-use Rattle.cany_laws.proofs.IntegralLogs.{each_integral}
+use Rattle.cany_laws.proofs.Logs.IntegralLogs.{each_integral}
 use Rattle.cany_laws.proofs.incarnations.integrity.Goals as goal
 
 pub returns : goal.returns

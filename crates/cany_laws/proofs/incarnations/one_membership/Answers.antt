@@ -1,4 +1,4 @@
-use Rattle.cany_laws.proofs.EqualMembers.{one_membership}
+use Rattle.cany_laws.proofs.Members.EqualMembers.{one_membership}
 use Rattle.cany_laws.proofs.incarnations.one_membership.Goals as goal
 
 pub returns : goal.returns

@@ -1,4 +1,4 @@
-use Rattle.cany_laws.proofs.OneSequence.{one_sequence}
+use Rattle.cany_laws.proofs.Logs.OneSequence.{one_sequence}
 use Rattle.cany_laws.proofs.incarnations.one_sequence.Goals as goal
 
 pub returns : goal.returns

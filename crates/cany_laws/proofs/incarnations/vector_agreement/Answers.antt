@@ -1,4 +1,4 @@
-use Rattle.cany_laws.proofs.EachView.{each_installs_one}
+use Rattle.cany_laws.proofs.Members.EachView.{each_installs_one}
 use Rattle.cany_laws.proofs.incarnations.vector_agreement.Goals as goal
 
 pub returns : goal.returns

@@ -1,4 +1,4 @@
-use Rattle.cany_laws.proofs.EachView.{each_has_one_view}
+use Rattle.cany_laws.proofs.Members.EachView.{each_has_one_view}
 use Rattle.cany_laws.proofs.incarnations.view_agreement.Goals as goal
 
 pub returns : goal.returns

@@ -1,4 +1,4 @@
-use Rattle.cany_laws.proofs.LeftOut.{left_out}
+use Rattle.cany_laws.proofs.Members.LeftOut.{left_out}
 use Rattle.cany_laws.proofs.membership.failed_are_left_out.Goals as goal
 
 pub returns : goal.returns

@@ -1,5 +1,5 @@
 use Rattle.cany_base.proofs.ParamsFacts.{few_nodes}
-use Rattle.cany_laws.proofs.Detected.{detected}
+use Rattle.cany_laws.proofs.Silences.Detected.{detected}
 use Rattle.cany_laws.proofs.membership.silence_is_detected.Goals as goal
 
 pub returns : goal.returns

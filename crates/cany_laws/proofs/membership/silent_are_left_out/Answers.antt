@@ -1,4 +1,4 @@
-use Rattle.cany_laws.proofs.LeftOut.{silent_is_left_out}
+use Rattle.cany_laws.proofs.Members.LeftOut.{silent_is_left_out}
 use Rattle.cany_laws.proofs.membership.silent_are_left_out.Goals as goal
 
 pub returns : goal.returns

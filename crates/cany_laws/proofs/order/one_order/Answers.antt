@@ -1,4 +1,4 @@
-use Rattle.cany_laws.proofs.OrderOfEach.{each_follows_order}
+use Rattle.cany_laws.proofs.Logs.OrderOfEach.{each_follows_order}
 use Rattle.cany_laws.proofs.order.one_order.Goals as goal
 
 pub returns : goal.returns

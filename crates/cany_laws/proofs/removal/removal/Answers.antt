@@ -1,4 +1,4 @@
-use Rattle.cany_laws.proofs.RemovalOut.{removed}
+use Rattle.cany_laws.proofs.Members.RemovalOut.{removed}
 use Rattle.cany_laws.proofs.removal.removal.Goals as goal
 
 pub returns : goal.returns

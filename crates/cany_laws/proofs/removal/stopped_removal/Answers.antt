@@ -1,4 +1,4 @@
-use Rattle.cany_laws.proofs.RemovalStop.{stopped_removed}
+use Rattle.cany_laws.proofs.Members.RemovalStop.{stopped_removed}
 use Rattle.cany_laws.proofs.removal.stopped_removal.Goals as goal
 
 pub returns : goal.returns

@@ -1,4 +1,4 @@
-use Rattle.cany_laws.proofs.FinalLogs.{is_final}
+use Rattle.cany_laws.proofs.Logs.FinalLogs.{is_final}
 use Rattle.cany_laws.proofs.settled.settled_is_final.Goals as goal
 
 pub returns : goal.returns

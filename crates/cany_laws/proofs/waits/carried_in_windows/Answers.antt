@@ -1,4 +1,4 @@
-use Rattle.cany_laws.proofs.WaitSlots.{carried_in_windows, some_left}
+use Rattle.cany_laws.proofs.Waiting.WaitSlots.{carried_in_windows, some_left}
 use Rattle.cany_laws.proofs.waits.carried_in_windows.Goals as goal
 
 pub returns : goal.returns

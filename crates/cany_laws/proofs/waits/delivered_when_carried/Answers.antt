@@ -1,6 +1,6 @@
 use Rattle.cany_model.proofs.Among.{Among-from_Contains}
 use Rattle.cany_model.specs.Rules.Messages.{messages_of}
-use Rattle.cany_laws.proofs.WaitDelivered.{delivered_by}
+use Rattle.cany_laws.proofs.Waiting.WaitDelivered.{delivered_by}
 use Rattle.cany_laws.proofs.waits.delivered_when_carried.Goals as goal
 
 pub returns : goal.returns

@@ -1,4 +1,4 @@
-use Rattle.cany_laws.proofs.WaitSlots.{few_slots_of_waiting}
+use Rattle.cany_laws.proofs.Waiting.WaitSlots.{few_slots_of_waiting}
 use Rattle.cany_laws.proofs.waits.few_slots_of_waiting.Goals as goal
 
 pub returns : goal.returns

@@ -1,4 +1,4 @@
-use Rattle.cany_laws.proofs.WaitMessages.{asked_in_its_slot, carried_by}
+use Rattle.cany_laws.proofs.Waiting.WaitMessages.{asked_in_its_slot, carried_by}
 use Rattle.cany_laws.proofs.waits.message_is_carried.Goals as goal
 
 pub returns : goal.returns

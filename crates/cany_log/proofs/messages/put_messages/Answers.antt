@@ -4,7 +4,7 @@ use Rattle.std.proofs.lemmas.List.{get_or-take, length-take}
 use Rattle.cany_model.specs.Rules.Messages.{messages_of}
 use Rattle.cany_model.specs.Runs.Run.{run}
 -- a send has one message: of the model's own words
-use Rattle.cany_model.proofs.Rules.MessageKeys.{length-messages_of}
+use Rattle.cany_model.proofs.Rules.Services.MessageKeys.{length-messages_of}
 use Rattle.cany_log.specs.ReportItems.{message_text}
 use Rattle.cany_log.proofs.PageFacts.{HasPut-start, HasPut-next}
 use Rattle.cany_log.proofs.ReportFacts.{message_is}

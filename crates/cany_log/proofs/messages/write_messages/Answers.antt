@@ -3,7 +3,7 @@ use Rattle.std.proofs.lemmas.Result.{err_from_is_err_and}
 use Rattle.cany_model.specs.Rules.Messages.{messages_of}
 use Rattle.cany_model.specs.Runs.Run.{run}
 -- a send has one message: of the model's own words
-use Rattle.cany_model.proofs.Rules.MessageKeys.{length-messages_of}
+use Rattle.cany_model.proofs.Rules.Services.MessageKeys.{length-messages_of}
 use Rattle.cany_log.specs.ReportItems.{message_text}
 use Rattle.cany_log.proofs.PageFacts.{next_items, past_items}
 use Rattle.cany_log.proofs.ReportFacts.{message_lines_text}

@@ -14,7 +14,7 @@ use Rattle.cany_model.specs.Bus.History.{given}
 use Rattle.cany_model.specs.Rules.KnowledgeOf.{ended_in, knowledge_of}
 use Rattle.cany_model.specs.Rules.Knowledge.{Knowledge, after_life, after_hearing, after_learning, shows_life, with_shown}
 use Rattle.cany_model.proofs.Bus.Notes.{placed_where}
-use Rattle.cany_model.proofs.Rules.KnowledgeSteps.{is_admitted, last_after, learnt_keeps, life_keeps, members_after, members_by, shown_after}
+use Rattle.cany_model.proofs.Rules.Site.KnowledgeSteps.{is_admitted, last_after, learnt_keeps, life_keeps, members_after, members_by, shown_after}
 use Rattle.cany_model.proofs.Timed.Windows.OwnLifeSigns.{last_grows}
 
 -- what a node would know if it had read all these slots

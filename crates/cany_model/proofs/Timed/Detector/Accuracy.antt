@@ -40,9 +40,9 @@ use Rattle.cany_model.proofs.Runs.Steps.{MayTurn, after_slot-trace, after_slot-u
 use Rattle.cany_model.proofs.Rules.Waits.{Asks, AsksOnly, Each-after}
 use Rattle.cany_model.proofs.Promises.Diffusion.{Turned, past_of}
 use Rattle.cany_model.proofs.Promises.EachNode.{turn_turned}
-use Rattle.cany_model.proofs.Rules.SignFacts.{asked_is_known}
-use Rattle.cany_model.proofs.Rules.KnowledgeFacts.{known_after, newly, same_sign-true, tells, HasTimedOut, timed_out}
-use Rattle.cany_model.proofs.Rules.KnowledgeSteps.{failed_after, failed_by, life_keeps}
+use Rattle.cany_model.proofs.Rules.Site.SignFacts.{asked_is_known}
+use Rattle.cany_model.proofs.Rules.Site.KnowledgeFacts.{known_after, newly, same_sign-true, tells, HasTimedOut, timed_out}
+use Rattle.cany_model.proofs.Rules.Site.KnowledgeSteps.{failed_after, failed_by, life_keeps}
 use Rattle.cany_model.proofs.Rules.TurnFacts.{fda_cause}
 use Rattle.cany_model.proofs.Timed.Common.StepsWithoutRestarts.{along_fronts}
 use Rattle.cany_model.proofs.Timed.Detector.HeardWithin.{heard_in_time, later_state}

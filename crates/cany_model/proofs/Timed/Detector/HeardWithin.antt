@@ -37,7 +37,7 @@ use Rattle.cany_model.proofs.Timed.Common.StepsWithoutRestarts.{KeepsFrom, from_
 use Rattle.cany_model.proofs.Timed.Detector.NoRestarts.{all_original, follows, sees_all}
 use Rattle.cany_model.proofs.Timed.Views.SameView.{end_of_rest, same_view}
 use Rattle.cany_model.proofs.Timed.Detector.ShowsInTime.{SentOwn, ShowsInTime, ShownSince, quiet_shows, sent_own, shows_life_in_time}
-use Rattle.cany_model.proofs.Rules.LifeCounts.{last_read}
+use Rattle.cany_model.proofs.Rules.Site.LifeCounts.{last_read}
 use Rattle.cany_model.proofs.Timed.Common.KnowledgeAges.{IsLifeOf, IsOwnLife, full, last_why, shown_comes, shown_either, shown_got}
 
 -- ---- a later state

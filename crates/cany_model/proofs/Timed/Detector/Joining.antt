@@ -40,7 +40,7 @@ use Rattle.cany_model.proofs.Promises.Diffusion.{Heard}
 use Rattle.cany_model.proofs.Promises.DiffusionRun.{run_diffuses}
 use Rattle.cany_model.proofs.Promises.OwnSlotsAlone.{run_numbered}
 use Rattle.cany_model.proofs.Promises.SignAgrees.{sign_duty, sign_is_diffused}
-use Rattle.cany_model.proofs.Rules.KnowledgeSteps.{joiners_after, joiners_by, members_by}
+use Rattle.cany_model.proofs.Rules.Site.KnowledgeSteps.{joiners_after, joiners_by, members_by}
 use Rattle.cany_model.proofs.Timed.Detector.VectorsAgreeOn.{Says, all_vectors_say, few_of, most}
 use Rattle.cany_model.proofs.Timed.Detector.SilentNode.{found_joiners, found_members, start_says}
 use Rattle.cany_model.proofs.Timed.Detector.HeardWithin.{later_state}

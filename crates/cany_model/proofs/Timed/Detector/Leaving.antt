@@ -45,7 +45,7 @@ use Rattle.cany_model.proofs.Promises.OwnSlotsAlone.{AllWaitForOwnSlots}
 use Rattle.cany_model.proofs.Rules.ProtocolFacts.{IsScripted, MayAsk, MayRequest, request_asked}
 use Rattle.cany_model.proofs.Rules.TurnFacts.{turn_only}
 use Rattle.cany_model.proofs.Timed.Detector.NoRestarts.{restarts_none}
-use Rattle.cany_model.proofs.Rules.KnowledgeSteps.{found_keeps, leavers_after, leavers_by, life_keeps, met_keeps}
+use Rattle.cany_model.proofs.Rules.Site.KnowledgeSteps.{found_keeps, leavers_after, leavers_by, life_keeps, met_keeps}
 
 -- ---- a frame by which it asks to leave is asked for
 

@@ -35,7 +35,7 @@ use Rattle.cany_model.proofs.Bus.Identities.{same_class-true}
 use Rattle.cany_model.proofs.Runs.Runs.{history-length, orderly}
 use Rattle.cany_model.proofs.Bus.States.{each_in_front, note_at, runs_within}
 use Rattle.cany_model.proofs.Runs.Steps.{MayTurn}
-use Rattle.cany_model.proofs.Rules.KnowledgeSteps.{joiners_after, joiners_by, members_by}
+use Rattle.cany_model.proofs.Rules.Site.KnowledgeSteps.{joiners_after, joiners_by, members_by}
 use Rattle.cany_model.proofs.Timed.Detector.VectorsAgreeOn.{Says, all_vectors_say, few_of, read_next}
 use Rattle.cany_model.proofs.Timed.Detector.SilentNode.{IsOutOrSilent, NothingOf, found_joiners, found_members, known_begun, lacks_says, shown_by, silent_fails, stays_out_or_silent}
 use Rattle.cany_model.proofs.Timed.Detector.HeardWithin.{later_state}

@@ -41,7 +41,7 @@ use Rattle.cany_model.proofs.Promises.EachNode.{EachRunning, IsNew, IsNodes, eac
 use Rattle.cany_model.proofs.Promises.OwnSlotsAlone.{AllWaitForOwnSlots}
 use Rattle.cany_model.proofs.Rules.ProtocolFacts.{IsFounded, MayAsk, MayWithdraw, accepts, answered, closes, confirms, enough, enough_accept, exchanges, is_diffused, is_relayed, lives, originates, relays, requests, settles, signals}
 use Rattle.cany_model.proofs.Rules.Protocols.{life_is_one}
-use Rattle.cany_model.proofs.Rules.KnowledgeFacts.{begun_knowledge}
+use Rattle.cany_model.proofs.Rules.Site.KnowledgeFacts.{begun_knowledge}
 use Rattle.cany_model.proofs.Rules.TurnFacts.{turn_effect, turn_has}
 use Rattle.cany_model.proofs.Timed.Common.KnowledgeAges.{IsOwnLife, last_by_own, last_comes, last_why}
 

@@ -27,8 +27,8 @@ use Rattle.cany_model.proofs.Bus.EachRead.{EachRead}
 use Rattle.cany_model.proofs.Bus.Identities.{same_class-true}
 use Rattle.cany_model.proofs.Bus.Notes.{placed_where}
 use Rattle.cany_model.proofs.Promises.WaitingIsAskable.{fda_names}
-use Rattle.cany_model.proofs.Rules.KnowledgeFacts.{knows_heard, knows_with, known_after, newly, same_sign-true, tells}
-use Rattle.cany_model.proofs.Rules.KnowledgeSteps.{asks_keep, failed_after, failed_by, found_keeps, is_admitted, learnt_keeps, life_keeps, shown_after}
+use Rattle.cany_model.proofs.Rules.Site.KnowledgeFacts.{knows_heard, knows_with, known_after, newly, same_sign-true, tells}
+use Rattle.cany_model.proofs.Rules.Site.KnowledgeSteps.{asks_keep, failed_after, failed_by, found_keeps, is_admitted, learnt_keeps, life_keeps, shown_after}
 use Rattle.cany_model.proofs.Timed.Detector.VectorsAgreeOn.{Says, none_says, some_says}
 use Rattle.cany_model.proofs.Timed.Common.KnowledgeAges.{ended_at, full, shown_either}
 use Rattle.cany_model.proofs.Timed.Detector.Stopped.{IsOwn, NotFrom, not_heard}

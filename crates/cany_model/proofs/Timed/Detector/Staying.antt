@@ -37,7 +37,7 @@ use Rattle.cany_model.proofs.Runs.Steps.{MayTurn, next_age, next_notice}
 use Rattle.cany_model.proofs.Promises.Diffusion.{past_of}
 use Rattle.cany_model.proofs.Rules.LogFacts.{log_split, made_by}
 use Rattle.cany_model.proofs.Rules.ProtocolFacts.{IsFoundedEntry, IsInstalled}
-use Rattle.cany_model.proofs.Rules.KnowledgeSteps.{members_by}
+use Rattle.cany_model.proofs.Rules.Site.KnowledgeSteps.{members_by}
 use Rattle.cany_model.proofs.Timed.Detector.Accuracy.{IsTimely, NoFrameIn, found_failed, found_other, no_sign, not_silent, timely_front, told_other}
 use Rattle.cany_model.proofs.Timed.Detector.VectorsAgreeOn.{Says, StartSays, all_vectors_say, each_at, most, next_given, next_there, none_says}
 use Rattle.cany_model.proofs.Timed.Detector.HeardWithin.{IsLater, later_state}

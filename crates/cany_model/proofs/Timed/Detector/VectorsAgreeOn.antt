@@ -49,11 +49,11 @@ use Rattle.cany_model.proofs.Rules.Waits.{AsksOnly, Each-after}
 use Rattle.cany_model.proofs.Promises.WaitingIsAskable.{all_belong, readable}
 use Rattle.cany_model.proofs.Promises.Diffusion.{past_of}
 use Rattle.cany_model.proofs.Promises.KeptVectors.{vector_at}
-use Rattle.cany_model.proofs.Rules.CycleFacts.{exchange_slot, start_slot}
+use Rattle.cany_model.proofs.Rules.Site.CycleFacts.{exchange_slot, start_slot}
 use Rattle.cany_model.proofs.Rules.ProtocolFacts.{IsFounded, IsLawful}
 use Rattle.cany_model.proofs.Rules.Protocols.{are_lawful}
-use Rattle.cany_model.proofs.Rules.KnowledgeNodes.{IsVectorOfBus, everybody_below, knowledge_of_bus}
-use Rattle.cany_model.proofs.Rules.VectorFacts.{brought_exchanged, carries_vector, vector_starts}
+use Rattle.cany_model.proofs.Rules.Site.KnowledgeNodes.{IsVectorOfBus, everybody_below, knowledge_of_bus}
+use Rattle.cany_model.proofs.Rules.Site.VectorFacts.{brought_exchanged, carries_vector, vector_starts}
 use Rattle.cany_model.proofs.Timed.Common.StepsWithoutRestarts.{along_fronts}
 use Rattle.cany_model.proofs.Timed.Detector.NoRestarts.{AllOriginal, all_original, follows, sees_all}
 use Rattle.cany_model.proofs.Timed.Views.ReadableNodes.{run_readable}

@@ -37,7 +37,7 @@ use Rattle.cany_model.proofs.Runs.SlotStates.{slot_state_is, trace_grows}
 use Rattle.cany_model.proofs.Bus.States.{no_note, note_at}
 use Rattle.cany_model.proofs.Rules.Waits.{Asks, waits-from_after}
 use Rattle.cany_model.proofs.Promises.EachNode.{EachRunning}
-use Rattle.cany_model.proofs.Rules.AskedFacts.{same_answer}
+use Rattle.cany_model.proofs.Rules.Services.AskedFacts.{same_answer}
 use Rattle.cany_model.proofs.Timed.Order.Accepted.{accepted_done, accepted_on, heard_at, heard_from, not_vector, sees_accept, some_node}
 use Rattle.cany_model.proofs.Timed.Common.Ages.{Carried, Clean, Done, Gets, NoPlace, Sends, any_past, carried_there, carries, carries_clean, clean_carried, gave, open_from, past, some_past}
 use Rattle.cany_model.proofs.Timed.Order.AcceptanceRelays.{AcceptsLater, Answer, Answers, Hears, accepts_later, heard_holds, later_seen, many_copies}

@@ -16,7 +16,7 @@ use Rattle.cany_model.specs.Rules.Totcan.{delivered, done, done_at, done_from, h
 use Rattle.cany_model.proofs.Bus.Carried.{frame_of_notice}
 use Rattle.cany_model.proofs.Bus.Identities.{same_class_self}
 use Rattle.cany_model.proofs.Bus.States.{note_at}
-use Rattle.cany_model.proofs.Rules.PlaceFacts.{holds-place, tot_in-brings, tot_in-holds}
+use Rattle.cany_model.proofs.Rules.Services.PlaceFacts.{holds-place, tot_in-brings, tot_in-holds}
 use Rattle.cany_model.proofs.Timed.Common.Ages.{Done, any_take, carries, gave, past, some_take}
 use Rattle.cany_model.proofs.Timed.Order.AcceptanceRelays.{Hears, heard_holds}
 use Rattle.cany_model.proofs.Timed.Order.OrderAt.{DataFirst, clean_done, frame_none, frame_of, frame_some, frames_by, frames_end, frames_more, merged, segment}

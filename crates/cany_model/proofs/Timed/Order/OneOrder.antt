@@ -34,8 +34,8 @@ use Rattle.cany_model.proofs.Bus.Seen.{history-is, length-seen}
 use Rattle.cany_model.proofs.Bus.States.{node_at-opening, note_at, runs_within}
 use Rattle.cany_model.proofs.Runs.Steps.{after_slot-present, after_turn-present, after_turn-runs, running_before_slot}
 use Rattle.cany_model.proofs.Promises.SettledFacts.{settled_none_ahead, settled_read}
-use Rattle.cany_model.proofs.Rules.DoneFacts.{IsNamed, are_through, done_exactly, is_done, through_is_clear}
-use Rattle.cany_model.proofs.Rules.PlaceFacts.{Place}
+use Rattle.cany_model.proofs.Rules.Services.DoneFacts.{IsNamed, are_through, done_exactly, is_done, through_is_clear}
+use Rattle.cany_model.proofs.Rules.Services.PlaceFacts.{Place}
 use Rattle.cany_model.proofs.Rules.Protocols.{totcan_is_one}
 use Rattle.cany_model.proofs.Timed.Order.Accepted.{accepted_done, accepted_on, seen_first, some_node}
 use Rattle.cany_model.proofs.Timed.Order.Accepts.{AcceptedAt}

@@ -37,11 +37,11 @@ use Rattle.cany_model.specs.Rules.Totcan.{delivered, delivered_now, message_in, 
 use Rattle.cany_model.specs.Rules.Turn.{scenario_at, turn_effects}
 use Rattle.cany_model.proofs.Among.{Among, Among-flat_map, Among-from_Contains, Among-from_flat_map, Among-map, Among-weaker, Among-which, Contains-from_Among}
 use Rattle.cany_model.proofs.Promises.Integrity.{integral}
-use Rattle.cany_model.proofs.Rules.DeliveryFacts.{entered-append}
-use Rattle.cany_model.proofs.Rules.MessageKeys.{is_service-true, same_message}
+use Rattle.cany_model.proofs.Rules.Services.DeliveryFacts.{entered-append}
+use Rattle.cany_model.proofs.Rules.Services.MessageKeys.{is_service-true, same_message}
 use Rattle.cany_model.proofs.Rules.ProtocolFacts.{IsFounded, IsFoundedEntry, IsLawful}
 use Rattle.cany_model.proofs.Rules.Protocols.{are_lawful}
-use Rattle.cany_model.proofs.Rules.TotcanFacts.{totcan_enters}
+use Rattle.cany_model.proofs.Rules.Services.TotcanFacts.{totcan_enters}
 
 abbrev pub content_in : FrameParts → Content
 content_in f = record { msg = message_in f; payload = f.payload }

@@ -23,9 +23,9 @@ use Rattle.cany_model.specs.Rules.Messages.{Message, data_id, is_from, is_servic
 use Rattle.cany_model.specs.Rules.Sends.{sendable}
 use Rattle.cany_model.specs.Rules.Totcan.{holds, is_recent, tot_of_key}
 use Rattle.cany_model.proofs.Among.{Each-append, Each-filter, Each-weaker, count-grows, count-yes}
-use Rattle.cany_model.proofs.Rules.BacklogFacts.{HasJoined, asked-few, backlog_joined, next_is}
-use Rattle.cany_model.proofs.Rules.MessageKeys.{IsOneOf, same_message}
-use Rattle.cany_model.proofs.Rules.SendFacts.{sendable_one}
+use Rattle.cany_model.proofs.Rules.Services.BacklogFacts.{HasJoined, asked-few, backlog_joined, next_is}
+use Rattle.cany_model.proofs.Rules.Services.MessageKeys.{IsOneOf, same_message}
+use Rattle.cany_model.proofs.Rules.Services.SendFacts.{sendable_one}
 use Rattle.cany_model.proofs.Timed.Common.Ages.{Sends, any_past, past}
 use Rattle.cany_model.proofs.Timed.Order.TotKept.{IsPlanned, no_message}
 

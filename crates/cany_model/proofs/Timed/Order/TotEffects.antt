@@ -22,7 +22,7 @@ use Rattle.cany_model.specs.Rules.Turn.{turn_effects}
 use Rattle.cany_model.proofs.Among.{count-no, count-yes}
 use Rattle.cany_model.proofs.Bus.Identities.{same_class-true, same_class_self, same_identity-from, same_identity-true}
 use Rattle.cany_model.proofs.Promises.Diffusion.{copies_got}
-use Rattle.cany_model.proofs.Rules.PlaceFacts.{holds-place, tot_in-holds}
+use Rattle.cany_model.proofs.Rules.Services.PlaceFacts.{holds-place, tot_in-holds}
 use Rattle.cany_model.proofs.Timed.Common.LastEffect.{Asked, NoEffect, Withdrawn, LastEffect, accept_alone, later, tot_alone, turn_waits, turn_last_effect, waits_by_last_effect, last_effect, last_effect-append}
 
 -- ---- the frame that accepts a message

@@ -36,7 +36,7 @@ use Rattle.cany_model.proofs.Runs.Steps.{MayTurn, next_notice}
 use Rattle.cany_model.proofs.Rules.Waits.{AsksOnly}
 use Rattle.cany_model.proofs.Promises.EachNode.{EachRunning, each_running, waiting_has}
 use Rattle.cany_model.proofs.Promises.OwnSlotsAlone.{from_later}
-use Rattle.cany_model.proofs.Rules.MessageKeys.{IsOneOf, same_message}
+use Rattle.cany_model.proofs.Rules.Services.MessageKeys.{IsOneOf, same_message}
 use Rattle.cany_model.proofs.Rules.ProtocolFacts.{MayAsk, accepts, confirms, exchanges, is_relayed, lives, originates, relays, request_class, requests, signals}
 use Rattle.cany_model.proofs.Rules.TurnFacts.{turn_only}
 use Rattle.cany_model.proofs.Timed.Common.Ages.{Carried, carried_there}

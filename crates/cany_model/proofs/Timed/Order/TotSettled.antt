@@ -50,7 +50,7 @@ use Rattle.cany_model.proofs.Promises.OneFrame.{only_frame}
 use Rattle.cany_model.proofs.Promises.SettledFacts.{settled_asked_or_late, settled_read, settled_waits}
 use Rattle.cany_model.proofs.Promises.Sources.{IsSourced, sourced}
 use Rattle.cany_model.proofs.Rules.IdleBeforeTakingPart.{IsBegun, begun_before, begun_copies, begun_short}
-use Rattle.cany_model.proofs.Rules.MessageKeys.{IsOneOf}
+use Rattle.cany_model.proofs.Rules.Services.MessageKeys.{IsOneOf}
 use Rattle.cany_model.proofs.Rules.ProtocolFacts.{IsFounded, IsLawful, MayWithdraw, answered, asks_named, closes, enough, enough_accept, is_diffused, settles}
 use Rattle.cany_model.proofs.Rules.Protocols.{are_lawful}
 use Rattle.cany_model.proofs.Rules.TurnFacts.{turn_cause_data, turn_effect}

@@ -20,7 +20,7 @@ use Rattle.cany_model.specs.Rules.Totcan.{after_place, holds, can_be_accepted, t
 use Rattle.cany_model.specs.Rules.Turn.{turn_effects}
 use Rattle.cany_model.proofs.Bus.Seen.{carries_other, hidden_why}
 use Rattle.cany_model.proofs.Bus.States.{note_at}
-use Rattle.cany_model.proofs.Rules.BacklogFacts.{next_joined}
+use Rattle.cany_model.proofs.Rules.Services.BacklogFacts.{next_joined}
 use Rattle.cany_model.proofs.Timed.Common.Ages.{Carried, Done, Gets, NoPlace, Sends, at_past, carried_there, clean_carried, copies_after_place, gave, open_place, own_after_place, past}
 use Rattle.cany_model.proofs.Timed.Common.OwnSlots.{sees_from}
 use Rattle.cany_model.proofs.Timed.Common.SeenAges.{Sees, carried_from, done_from, done_to, gets_from, sends_from}

@@ -44,7 +44,7 @@ use Rattle.cany_model.proofs.Promises.FirstCycles.{has_first_cycle}
 use Rattle.cany_model.proofs.Promises.KeptVectors.{vector_at}
 use Rattle.cany_model.proofs.Promises.LateVectors.{late_vectors}
 use Rattle.cany_model.proofs.Rules.IncarnationFacts.{effects_for-is}
-use Rattle.cany_model.proofs.Rules.VectorFacts.{carries_vector}
+use Rattle.cany_model.proofs.Rules.Site.VectorFacts.{carries_vector}
 use Rattle.cany_model.proofs.Runs.PresentIncarnations.{each_present}
 use Rattle.cany_model.proofs.Timed.Common.Ages.{gave, past}
 use Rattle.cany_model.proofs.Timed.Order.NoLateAcceptances.{IsStaying}

@@ -35,7 +35,7 @@ use Rattle.cany_model.proofs.Bus.EachRead.{EachRead, each_dropped, each_of_trace
 use Rattle.cany_model.proofs.Bus.Identities.{same_class_self}
 use Rattle.cany_model.proofs.Runs.Runs.{IsOrderly, orderly}
 use Rattle.cany_model.proofs.Bus.Seen.{IsSeenPast, history-is, length-seen, seen_frame}
-use Rattle.cany_model.proofs.Rules.NoEarlyVectors.{HearsNoEarly, hears_no_early_of}
+use Rattle.cany_model.proofs.Rules.Site.NoEarlyVectors.{HearsNoEarly, hears_no_early_of}
 use Rattle.cany_model.proofs.Promises.WithinSeen.{within_seen}
 use Rattle.cany_model.proofs.Runs.SlotStates.{slot_state_is}
 use Rattle.cany_model.proofs.Bus.States.{runs_within}
@@ -45,9 +45,9 @@ use Rattle.cany_model.proofs.Promises.EachNode.{EachRunning, blank_heard, each_r
 use Rattle.cany_model.proofs.Promises.OwnSlotsAlone.{from_later, history-seen, members_later, run_numbered}
 use Rattle.cany_model.proofs.Promises.KeptVectors.{vector_at}
 use Rattle.cany_model.proofs.Rules.MutedFacts.{begun_later}
-use Rattle.cany_model.proofs.Rules.KnowledgeFacts.{begun_knowledge}
-use Rattle.cany_model.proofs.Rules.KnowledgeNodes.{IsVectorOfBus, first_members, knowledge_of_bus}
-use Rattle.cany_model.proofs.Rules.VectorFacts.{carries_vector}
+use Rattle.cany_model.proofs.Rules.Site.KnowledgeFacts.{begun_knowledge}
+use Rattle.cany_model.proofs.Rules.Site.KnowledgeNodes.{IsVectorOfBus, first_members, knowledge_of_bus}
+use Rattle.cany_model.proofs.Rules.Site.VectorFacts.{carries_vector}
 use Rattle.cany_model.proofs.Timed.Common.Ages.{past}
 use Rattle.cany_model.proofs.Timed.Windows.QuietSlots.{front_trace, within_dropped}
 use Rattle.cany_model.proofs.Timed.Views.NoLateVectors.{NoVectorSince, IsAfterCycle, NoVector, after_cycle, brings_none, no_vector_cycle, no_vector_seen, carried_late, sees_cycle, unasked_seen}

@@ -34,7 +34,7 @@ use Rattle.cany_base.proofs.SetFacts.{same_bits}
 use Rattle.cany_model.specs.Rules.Views.{view_effects, withdrawn_asks}
 use Rattle.cany_model.proofs.Among.{Among, Among-append_cases, Among-from_Contains, Among-from_count, Among-weaker, count-from_Among, count-no}
 use Rattle.cany_model.proofs.Runs.Runs.{history-length}
-use Rattle.cany_model.proofs.Rules.MembershipEntries.{withdrawn_enter}
+use Rattle.cany_model.proofs.Rules.Site.MembershipEntries.{withdrawn_enter}
 use Rattle.cany_model.proofs.Rules.TurnEntries.{IsOfSign, failures_enter, turn_enters}
 use Rattle.cany_model.proofs.Timed.Views.OneVector.{installed_before, installed_here, installed_late, one_vector}
 

@@ -16,7 +16,7 @@ use Rattle.cany_model.specs.Rules.KnowledgeOf.{knowledge_of}
 use Rattle.cany_base.specs.Cycles.{cycle_of, is_end}
 use Rattle.cany_model.proofs.Runs.Runs.{IsOrderly}
 use Rattle.cany_model.proofs.Bus.States.{runs_within}
-use Rattle.cany_model.proofs.Rules.KnowledgeSteps.{members_by}
+use Rattle.cany_model.proofs.Rules.Site.KnowledgeSteps.{members_by}
 use Rattle.cany_model.proofs.Timed.Detector.VectorsAgreeOn.{installed_before, installed_now}
 use Rattle.cany_model.proofs.Timed.Detector.NoRestarts.{AllOriginal, from_original, installed_all}
 use Rattle.cany_model.proofs.Timed.Common.KnowledgeAges.{ended_at, full, members_next}

@@ -21,7 +21,7 @@ use Rattle.cany_model.proofs.Runs.Runs.{orderly}
 use Rattle.cany_model.proofs.Runs.SlotStates.{trace_grows}
 use Rattle.cany_model.proofs.Bus.States.{note_at}
 use Rattle.cany_model.proofs.Runs.Steps.{MayTurn, next_age, next_notice}
-use Rattle.cany_model.proofs.Rules.KnowledgeSteps.{members_by}
+use Rattle.cany_model.proofs.Rules.Site.KnowledgeSteps.{members_by}
 use Rattle.cany_model.proofs.Timed.Detector.VectorsAgreeOn.{Says, StartSays}
 use Rattle.cany_model.proofs.Timed.Detector.NoRestarts.{AllOriginal, all_original, follows, history_all, history_but_all, sees_all}
 use Rattle.cany_model.proofs.Timed.Views.SameView.{end_of_rest, end_place, installed_there, no_ended, same_view}

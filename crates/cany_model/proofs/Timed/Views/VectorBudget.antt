@@ -20,7 +20,7 @@ use Rattle.cany_model.specs.Rules.Knowledge.{Knowledge}
 use Rattle.cany_model.proofs.Bus.Notes.{given_idle}
 use Rattle.cany_model.proofs.Promises.Diffusion.{past_of}
 use Rattle.cany_model.proofs.Promises.EachNode.{EachRunning, IsNew}
-use Rattle.cany_model.proofs.Rules.KnowledgeFacts.{begun_knowledge}
+use Rattle.cany_model.proofs.Rules.Site.KnowledgeFacts.{begun_knowledge}
 use Rattle.cany_model.specs.Bus.Frames.{Identity, identity_of}
 use Rattle.cany_model.specs.Bus.History.{given, is_sent}
 use Rattle.cany_model.specs.Rules.Effect.{waiting_after}
@@ -31,7 +31,7 @@ use Rattle.cany_model.proofs.Among.{count-no, count-yes}
 use Rattle.cany_model.proofs.Bus.Carried.{is_sent-from, is_sent-true}
 use Rattle.cany_model.proofs.Runs.Steps.{kept_at}
 use Rattle.cany_model.proofs.Promises.KeptVectors.{vector_at}
-use Rattle.cany_model.proofs.Rules.KnowledgeNodes.{IsVectorOfBus, first_members, knowledge_of_bus}
+use Rattle.cany_model.proofs.Rules.Site.KnowledgeNodes.{IsVectorOfBus, first_members, knowledge_of_bus}
 use Rattle.cany_model.proofs.Timed.Views.VectorHeld.{WaitedWith, held_none, held_slot, held_some}
 use Rattle.cany_model.proofs.Timed.Views.VectorSets.{meet_left, size, size_le, size_less, size_most}
 use Rattle.cany_model.proofs.Timed.Views.VectorTurns.{starts_with, turn_ends, turn_exchanges, turn_outside, turn_starts}

@@ -33,11 +33,11 @@ use Rattle.cany_model.proofs.Promises.CleanSlots.{Accepts, success_is_clean, ver
 use Rattle.cany_model.proofs.Bus.Identities.{same_class_self, same_identity-true}
 use Rattle.cany_model.proofs.Bus.Notes.{given-Got, given-Sent}
 use Rattle.cany_model.proofs.Bus.Seen.{Among-seen, Numbered, hidden_why, seen_plain}
-use Rattle.cany_model.proofs.Rules.NoEarlyVectors.{carries_frame}
+use Rattle.cany_model.proofs.Rules.Site.NoEarlyVectors.{carries_frame}
 use Rattle.cany_model.proofs.Promises.Diffusion.{Heard}
 use Rattle.cany_model.proofs.Promises.KeptVectors.{vector_at}
-use Rattle.cany_model.proofs.Rules.KnowledgeNodes.{IsVectorOfBus}
-use Rattle.cany_model.proofs.Rules.VectorFacts.{carries_vector}
+use Rattle.cany_model.proofs.Rules.Site.KnowledgeNodes.{IsVectorOfBus}
+use Rattle.cany_model.proofs.Rules.Site.VectorFacts.{carries_vector}
 use Rattle.cany_model.proofs.Timed.Common.Ages.{gave, past}
 use Rattle.cany_model.proofs.Timed.Order.TotRun.{past_next}
 use Rattle.cany_model.proofs.Timed.Views.VectorKept.{Covers, HasRead, HasVector, IsOpen, IsSentOf, SentCovers, Untouched, VectorKept, own_frame}

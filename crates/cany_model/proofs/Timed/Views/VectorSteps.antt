@@ -30,9 +30,9 @@ use Rattle.cany_model.proofs.Runs.Steps.{kept_at}
 use Rattle.cany_model.proofs.Promises.Diffusion.{past_of}
 use Rattle.cany_model.proofs.Promises.EachNode.{EachRunning, IsNew}
 use Rattle.cany_model.proofs.Promises.KeptVectors.{vector_at}
-use Rattle.cany_model.proofs.Rules.KnowledgeFacts.{begun_knowledge}
-use Rattle.cany_model.proofs.Rules.KnowledgeNodes.{IsVectorOfBus, first_members, knowledge_of_bus}
-use Rattle.cany_model.proofs.Rules.VectorFacts.{carries_vector}
+use Rattle.cany_model.proofs.Rules.Site.KnowledgeFacts.{begun_knowledge}
+use Rattle.cany_model.proofs.Rules.Site.KnowledgeNodes.{IsVectorOfBus, first_members, knowledge_of_bus}
+use Rattle.cany_model.proofs.Rules.Site.VectorFacts.{carries_vector}
 use Rattle.cany_model.proofs.Timed.Views.VectorHeld.{WaitedWith, held_none, held_slot, sent_held}
 use Rattle.cany_model.proofs.Timed.Views.VectorKept.{Answered, Covers, HasRead, HasVector, IsOpen, IsSentOf, NodeVector, SentCovers, Untouched, VectorKept, WaitCovers, own_frame}
 use Rattle.cany_model.proofs.Timed.Views.VectorSets.{just_this, meet_left, vector_again}

@@ -15,7 +15,7 @@ use Rattle.cany_model.specs.Rules.Turn.{protocols, turn_effects}
 use Rattle.cany_model.specs.Rules.Vectors.{brought, end_effects, ended, exchange_at, met, rha_of, start_effects, vector_effects}
 use Rattle.cany_base.specs.Cycles.{cycle_of, is_end, is_exchange, is_start}
 use Rattle.cany_model.proofs.Promises.KeptVectors.{vector_at}
-use Rattle.cany_model.proofs.Rules.VectorFacts.{vector_met, vector_starts}
+use Rattle.cany_model.proofs.Rules.Site.VectorFacts.{vector_met, vector_starts}
 use Rattle.cany_model.proofs.Timed.Views.VectorLastEffect.{IsAt, IsCycle, at_end, at_exchange, at_place, at_start, brings, brought_in, brought_out, brought_last_effect, end_idle, end_own, end_last_effect, exchange_in, exchange_other, exchange_last_effect, no_end, no_start, start_idle, start_own, start_last_effect, vector_idle, vector_own}
 use Rattle.cany_model.proofs.Timed.Common.LastEffect.{NamesAlone, LastEffect, NoEffect, Withdrawn, later, later_no_effect, turn_last_effect, last_effect}
 

@@ -51,18 +51,18 @@ use Rattle.cany_model.proofs.Runs.Runs.{IsOrderly, orderly}
 use Rattle.cany_model.proofs.Bus.Seen.{length-seen, trace_for-is}
 use Rattle.cany_model.proofs.Bus.States.{no_note, note_at}
 use Rattle.cany_model.proofs.Rules.Waits.{AsksOnly}
-use Rattle.cany_model.proofs.Rules.BacklogFacts.{backlog_is_lawful}
+use Rattle.cany_model.proofs.Rules.Services.BacklogFacts.{backlog_is_lawful}
 use Rattle.cany_model.proofs.Rules.IdleBeforeTakingPart.{begun_first}
-use Rattle.cany_model.proofs.Rules.CycleFacts.{start_slot}
-use Rattle.cany_model.proofs.Rules.EdcanFacts.{edcan_is_lawful}
+use Rattle.cany_model.proofs.Rules.Site.CycleFacts.{start_slot}
+use Rattle.cany_model.proofs.Rules.Services.EdcanFacts.{edcan_is_lawful}
 use Rattle.cany_model.proofs.Rules.IncarnationFacts.{effects_for-is}
-use Rattle.cany_model.proofs.Rules.LifeFacts.{failures_are_lawful, life_is_lawful}
+use Rattle.cany_model.proofs.Rules.Site.LifeFacts.{failures_are_lawful, life_is_lawful}
 use Rattle.cany_model.proofs.Rules.MutedFacts.{turn_muted}
 use Rattle.cany_model.proofs.Rules.ProtocolFacts.{IsFounded, IsLawful}
-use Rattle.cany_model.proofs.Rules.RelcanFacts.{relcan_is_lawful}
-use Rattle.cany_model.proofs.Rules.SendFacts.{sends_are_lawful}
-use Rattle.cany_model.proofs.Rules.VectorFacts.{carries_vector}
-use Rattle.cany_model.proofs.Rules.ViewFacts.{asks_are_lawful, views_are_lawful}
+use Rattle.cany_model.proofs.Rules.Services.RelcanFacts.{relcan_is_lawful}
+use Rattle.cany_model.proofs.Rules.Services.SendFacts.{sends_are_lawful}
+use Rattle.cany_model.proofs.Rules.Site.VectorFacts.{carries_vector}
+use Rattle.cany_model.proofs.Rules.Site.ViewFacts.{asks_are_lawful, views_are_lawful}
 use Rattle.cany_model.proofs.Timed.Common.Ages.{gave, past}
 use Rattle.cany_model.proofs.Timed.Common.Counting.{at_most_1, window_at}
 use Rattle.cany_model.proofs.Timed.Common.Pigeonhole.{count_ages, count_either, count_or, count_weaker}

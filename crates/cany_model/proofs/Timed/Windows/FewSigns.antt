@@ -41,7 +41,7 @@ use Rattle.cany_model.proofs.Promises.FewLifeSigns.{last_life}
 use Rattle.cany_model.proofs.Promises.OwnSlotsAlone.{AllWaitForOwnSlots, own_slots_alone_run, sent_plain}
 use Rattle.cany_model.proofs.Promises.FewLifeSignsWaiting.{IsOwnSign, turn_idle, turn_more, turn_numbers}
 use Rattle.cany_model.proofs.Promises.SignCounts.{is_els, sent_one}
-use Rattle.cany_model.proofs.Rules.LifeCounts.{due_at, due_in, last_cases}
+use Rattle.cany_model.proofs.Rules.Site.LifeCounts.{due_at, due_in, last_cases}
 use Rattle.cany_model.proofs.Timed.Common.Ages.{gave, past}
 use Rattle.cany_model.proofs.Timed.Common.Counting.{at_most_1, cover_window, window_at}
 use Rattle.cany_model.proofs.Timed.Common.OwnSlots.{HasOwnSlots, IsLongBefore, OwnSlots, own_slots, sees_from, sent_when}

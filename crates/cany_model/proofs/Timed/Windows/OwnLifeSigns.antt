@@ -13,8 +13,8 @@ use Rattle.cany_model.specs.Bus.History.{given}
 use Rattle.cany_model.specs.Rules.Life.{is_own_sign}
 use Rattle.cany_model.specs.Rules.KnowledgeOf.{ended_in, knowledge_of}
 use Rattle.cany_model.specs.Rules.Knowledge.{Knowledge, after_life, after_hearing, shows_life}
-use Rattle.cany_model.proofs.Rules.LifeCounts.{last_cases, last_read}
-use Rattle.cany_model.proofs.Rules.KnowledgeSteps.{is_admitted, last_after}
+use Rattle.cany_model.proofs.Rules.Site.LifeCounts.{last_cases, last_read}
+use Rattle.cany_model.proofs.Rules.Site.KnowledgeSteps.{is_admitted, last_after}
 use Rattle.cany_model.proofs.Timed.Common.Ages.{gave, gave_none, past}
 
 -- at this age node i sent its life sign
