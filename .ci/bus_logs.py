@@ -5,10 +5,10 @@ import subprocess
 import tempfile
 from pathlib import Path
 
-import report as reports
-import wire
 from buslog import Clock, asc, at_the_nodes, candump, on_the_bus
-from readings import stored
+from lib import report as reports
+from lib import wire
+from readings import stored, stored_bytes
 
 LIMIT = 60
 FORMATS = {"One": 1, "Two": 2}
@@ -65,7 +65,7 @@ def check_bits(tally):
 
 
 def lines_of(root, name, events):
-    report = reports.read_report((root / f"scenarios/{name}.report").read_bytes())
+    report = reports.read_report(stored_bytes(root, f"{name}.report"))
     return list(candump(report, events(report), Clock(500_000, 0), "can", False))
 
 
@@ -141,7 +141,7 @@ def check_tshark(root, folder, tally):
     print(f"bus logs: {version} reads them")
     fields = [word for name in ("class", "node", "incarnation", "number", "vector") for word in ("-e", f"canely.{name}")]
     for name in (*READ_BY_TOOLS, "forty_nodes"):
-        report = reports.read_report((root / f"scenarios/{name}.report").read_bytes())
+        report = reports.read_report(stored_bytes(root, f"{name}.report"))
         script = ["-X", f"lua_script:{root / 'tools/canely.lua'}", "-o", f"canely.format:{report.format}"]
         found = ran("tshark", *script, "-r", str(folder / f"{name}.log"), "-T", "fields", "-E", "separator=;", *fields)
         wanted = []
@@ -152,11 +152,26 @@ def check_tshark(root, folder, tally):
         tally.check(found.stdout.splitlines() == wanted, f"tshark shows other frames in {name}.log: {found.stderr[-300:]}")
 
 
+# Frames of something else on the bus: of 11 bits, of J1939, a data frame and a remote frame of a class of the other kind, with an
+# incarnation that the class has not, a vector that is too short, of no class.
+FOREIGN = ("123#01", "0CF00400#0011", "04000000#01", "12000000#R", "12000001#01", "02000210#0001", "14000000#01")
+OURS = ("12000000#01", "ed;0;0;0;")
+
+
+def check_foreign(root, folder, tally):
+    """tshark with canely.lua takes no frame of something else for ours."""
+    log = folder / "foreign.log"
+    log.write_text("".join(f"(0000000000.{at:06}) can0 {it}\n" for at, it in enumerate([OURS[0], *FOREIGN])))
+    fields = [word for name in ("class", "node", "incarnation", "number", "vector") for word in ("-e", f"canely.{name}")]
+    found = ran("tshark", "-X", f"lua_script:{root / 'tools/canely.lua'}", "-r", str(log), "-T", "fields", "-E", "separator=;", *fields)
+    tally.check(found.stdout.splitlines() == [OURS[1], *(len(FOREIGN) * [";;;;"])], f"tshark takes foreign frames for ours: {found.stdout}")
+
+
 def check_tools(root, tally):
     with tempfile.TemporaryDirectory() as place:
         folder = Path(place)
         for name in (*READ_BY_TOOLS, "forty_nodes"):
-            report = reports.read_report((root / f"scenarios/{name}.report").read_bytes())
+            report = reports.read_report(stored_bytes(root, f"{name}.report"))
             text = lambda lines: "".join(f"{line}\n" for line in lines)
             (folder / f"{name}.log").write_text(text(candump(report, on_the_bus(report), Clock(500_000, 0), "can", False)))
             (folder / f"{name}.asc").write_text(text(asc(report, on_the_bus(report), Clock(500_000, 0))))
@@ -166,6 +181,7 @@ def check_tools(root, tally):
         check_python_can(folder, tally)
         if has("tshark"):
             check_tshark(root, folder, tally)
+            check_foreign(root, folder, tally)
 
 
 def check(root, tally):

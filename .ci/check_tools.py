@@ -14,6 +14,7 @@ sys.dont_write_bytecode = True
 ROOT = Path(__file__).resolve().parent.parent
 sys.path.insert(0, str(ROOT / "tools"))
 
+import building
 import bus_logs
 import drawings
 import parameters
@@ -21,6 +22,7 @@ import program
 import readings
 import sweeping
 import viewer
+import vocabulary
 from tally import Tally
 
 
@@ -43,10 +45,12 @@ def main():
         return 0
     tally, built = Tally(), built_program(given.program)
     subjects = {
+        "words": lambda: vocabulary.check(ROOT, tally, built),
         "reading": lambda: readings.check(ROOT, tally),
         "drawing": lambda: drawings.check(ROOT, tally, built),
         "bus logs": lambda: bus_logs.check(ROOT, tally),
         "viewer": lambda: viewer.check(ROOT, tally),
+        "building": lambda: building.check(ROOT, tally),
         "parameters": lambda: parameters.check(ROOT, tally, built),
         "sweeps": lambda: sweeping.check(ROOT, tally, built),
     }

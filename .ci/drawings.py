@@ -9,13 +9,11 @@ import tempfile
 import xml.etree.ElementTree as ElementTree
 from pathlib import Path
 
-import chart
-import columns
-import picture
 import pictures
-import report as reports
-from draw import MOST_SLOT
-from readings import LIMIT, at_once, stored, tool
+from lib import chart, columns, picture
+from lib import report as reports
+from lib.columns import MOST_SLOT
+from readings import LIMIT, at_once, stored, stored_path, tool
 
 # By the name of a file of tools/expected: the script and its arguments that write it.
 EXPECTED = {
@@ -46,7 +44,7 @@ MOST_PICTURE_BYTES = 100_000
 
 
 def made(root, command):
-    name, *arguments = shlex.split(command)
+    name, *arguments = shlex.split(re.sub(r"scenarios/(\S+)", lambda it: stored_path(root, it[1]), command))
     return tool(root, name, *arguments)
 
 
@@ -108,6 +106,56 @@ def check_pictures(root, tally):
     tally.check(not others, f"docs/pictures has what nothing makes: {', '.join(others)}")
 
 
+def check_folder(root, tally):
+    """tools/pictures.py makes the folder that it is given."""
+    with tempfile.TemporaryDirectory() as place:
+        folder = Path(place, "new", "pictures")
+        found = tool(root, "pictures.py", str(folder))
+        tally.check(found == (0, b"", ""), f"pictures.py with a new folder: {found}")
+        tally.check({it.stem for it in folder.glob("*.svg")} == set(pictures.TITLES), "pictures.py does not draw all pictures into a new folder")
+
+
+# What is not of one run, or of no slot of it: the words, the status and the line that is said.
+CHECK = "tools/expected/silent_omission_is_outside.check"
+REFUSED = [
+    (f"draw.py scenarios/one_message_no_fault.report --check {CHECK}", 3, f"{CHECK}: its format or its hypothesis is not that of the report"),
+    ("draw.py scenarios/three_services.report --check {nothing}", 3, "{nothing}: its messages are not those of the report"),
+    ("draw.py scenarios/nothing_sent.report --check {nothing}", 0, None),
+    (f"measure.py scenarios/one_message_no_fault.report --check {CHECK}", 3, f"{CHECK}: its format or its hypothesis is not that of the report"),
+    ("measure.py scenarios/three_services.report --check {nothing}", 3, "{nothing}: its messages are not those of the report"),
+    ("measure.py scenarios/restart_joins.report --scenario scenarios/three_services.toml", 3, "scenarios/three_services.toml: nodes is 4, and 3 in the report"),
+    ("measure.py scenarios/restart_joins.report --scenario {none}", 3, "{none}: its messages are not those of the report"),
+    ("draw.py scenarios/restart_joins.report --from 20 --to 10", 2, "--from 20 comes after --to 10"),
+    ("draw.py scenarios/restart_joins.report --from 253", 2, "--from 253 comes after the run, which has 253 slots"),
+]
+# The verdict on a run in which nothing was sent, and a scenario that has a message more than a report.
+NOTHING = """canely check 1
+hypothesis within
+integrity held
+agreement ed held all 0 none 0 apart 0 open 0
+agreement rel held all 0 none 0 apart 0 open 0
+agreement tot held all 0 none 0 apart 0 open 0
+order held shortest 0 longest 0
+views held numbers 0 apart 0
+signs held all 0 none 0 apart 0 open 0
+accuracy held
+end
+"""
+NONE = 'format = 1\nnodes = 3\nslots = 253\n[[send]]\nslot = 0\nnode = 0\nservice = "ed"\n'
+
+
+def check_refused(root, tally):
+    with tempfile.TemporaryDirectory() as place:
+        files = {"nothing": Path(place, "nothing.check"), "none": Path(place, "none.toml")}
+        files["nothing"].write_text(NOTHING)
+        files["none"].write_text(NONE)
+        calls = [(words.format(**files), status, line and line.format(**files)) for words, status, line in REFUSED]
+        for (words, status, line), (ended, _, said) in at_once(calls, lambda words, *_: made(root, words)):
+            line = line and re.sub(r"scenarios/([^ :]+)", lambda it: stored_path(root, it[1]), line)
+            wanted = f"{words.split()[0]}: {line}\n" if line else ""
+            tally.check((ended, said) == (status, wanted), f"{words} ends with {ended} and says {said!r}, and not with {status} and {wanted!r}")
+
+
 @contextlib.contextmanager
 def on_the_path(built):
     """The environment in which `canely` is the built program."""
@@ -138,4 +186,6 @@ def check(root, tally, built):
     check_expected(root, tally)
     check_charts(root, tally)
     check_pictures(root, tally)
+    check_folder(root, tally)
+    check_refused(root, tally)
     check_page(root, tally, built)

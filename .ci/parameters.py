@@ -1,12 +1,15 @@
 """tools/params.py: its formulas are those of the reports, no run passes its bounds, and the program reads what it prints."""
+import re
 from argparse import Namespace
 from fractions import Fraction
+from typing import NamedTuple, Optional
 
 import measure
 import params
 import program as programs
-import report as reports
-from readings import at_once, stored, tool
+from lib import report as reports
+from lib.report import View
+from readings import at_once, stored, stored_bytes, tool
 
 SLOT = Fraction(180, 500_000)
 PARAMS = "params.py"
@@ -33,7 +36,7 @@ def of_report(report):
     return params.Params(*(given[name] for name in params.Params._fields))
 
 
-def over(report):
+def over(report, members):
     """What in a run within the hypothesis took longer than a bound, or was sooner than one, in words."""
     found = of_report(report)
     most = {name: bound.slots(found) for name, bound in params.BOUNDS.items()}
@@ -56,16 +59,73 @@ def over(report):
             late = [it for it in measure.signs_of(report, node, stop, report.parameters["slots"]) if it > stop + most["detect"]]
             late += [it.slot for it in measure.removals_of(report, node, stop, report.parameters["slots"], range(found.nodes)) if it.slot > stop + most["remove"]]
             yield from (f"node {node}, stopped in slot {stop}, was known or removed in slot {it}" for it in late)
+    for it in asks(report, members):
+        yield from late_after(it, most)
+
+
+class Ask(NamedTuple):
+    """A JOIN that was carried clean, of a node that runs to the end and does not leave."""
+
+    slot: int
+    node: int
+    stopped: Optional[int]
+    """The slot in which its incarnation before stopped."""
+    getters: list
+    """The present incarnations of the others that get it, and do not leave."""
+    is_outside: bool
+    """Whether none of them has the node in its view."""
+
+
+def asks(report, members):
+    """The JOINs of a report, where these are the first members."""
+    leaving = {slot.frame.node for slot in report.bus if slot.frame and slot.frame.kind == "leave"}
+    for slot in report.bus:
+        if slot.frame and slot.frame.kind == "join" and slot.verdict == "clean" and slot.frame.node not in leaving:
+            node, lives = slot.frame.node, report.nodes[slot.frame.node]
+            getters = [life for life in report.present() if life.node not in (node, *leaving) and life.acts <= slot.slot]
+            if lives[-1].number == slot.frame.incarnation and lives[-1].stopped is None:
+                stopped = lives[-2].stopped if len(lives) > 1 else None
+                yield Ask(slot.slot, node, stopped, getters, not any(node in members_at(life, slot.slot, members) for life in getters))
+
+
+def members_at(life, slot, members):
+    """Whom a node has in its view in a slot; one that started again has nobody before its first vector."""
+    views = [it.members for it in life.log if isinstance(it, View) and it.slot <= slot]
+    return views[-1] if views else () if life.number else members
+
+
+def late_after(ask, most):
+    """What came of a JOIN later than the bounds say, in words."""
+    end = ask.slot + most["admit"]
+    for life in ask.getters if ask.is_outside else ():
+        views = [it for it in life.log if isinstance(it, View) and it.slot > ask.slot]
+        first = next((it for it in views if ask.node in it.members), views[-1] if views else None)
+        if first and first.slot > end:
+            yield f"node {life.node} has node {ask.node}, which asked in slot {ask.slot}, in no view by slot {end}"
+    if not ask.is_outside and ask.stopped is not None and ask.slot >= ask.stopped + most["wait"]:
+        yield f"a view has node {ask.node} in slot {ask.slot}, and it stopped in slot {ask.stopped}"
+
+
+def first_members(root, name, report):
+    """The members of view 0, which the scenario says."""
+    found = re.search(r"(?m)^members = \[(.*)\]", stored_bytes(root, f"{name}.toml").decode())
+    return [int(it) for it in found[1].split(",")] if found else range(report.parameters["nodes"])
 
 
 def check_reports(root, tally):
+    counted = set()
     for name, text in stored(root).items():
         report = reports.read_report(text)
+        members = first_members(root, name, report)
+        counted.update(it.is_outside for it in asks(report, members))
         given = report.parameters
         for key, (least, _) in params.FORMULAS.items():
             tally.check(given[key] >= least(given), f"{name}: {key} is {given[key]}, and params.py has it at least {least(given)}")
         if not report.first_break:
-            tally.check(not list(over(report)), f"{name} passes the bounds of params.py: {list(over(report))}")
+            tally.check(not list(over(report, members)), f"{name} passes the bounds of params.py: {list(over(report, members))}")
+    tally.check(counted == {False, True}, "scenarios/ has no JOIN that counts, or none that does nothing")
+    slots = {name: bound.slots(of_report(report)) for name, bound in params.BOUNDS.items()}
+    tally.check(slots["return"] == slots["take-part"] + 1 + slots["admit"], "params.py: a return is not a JOIN in the slot after the node takes part")
 
 
 def check_words(root, tally):

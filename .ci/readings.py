@@ -5,9 +5,9 @@ import subprocess
 import sys
 from concurrent.futures import ThreadPoolExecutor
 
-import report as reports
-import verdict
-from lines import Malformed
+from lib import report as reports
+from lib import verdict
+from lib.lines import Malformed
 
 LIMIT = 240
 REPORT, DRAW, BUSLOG = "report.py", "draw.py", "buslog.py"
@@ -26,9 +26,19 @@ def at_once(calls, work):
         return list(zip(calls, pool.map(lambda call: work(*call), calls)))
 
 
+def stored_path(root, name):
+    """The path of a file of scenarios/, in whichever folder there, from the top."""
+    (found,) = root.glob(f"scenarios/**/{name}")
+    return str(found.relative_to(root))
+
+
+def stored_bytes(root, name):
+    return (root / stored_path(root, name)).read_bytes()
+
+
 def stored(root):
     """The reports of scenarios/, by name, without the refusals and what other commands write."""
-    texts = {it.stem: it.read_bytes() for it in sorted(root.glob("scenarios/*.report"))}
+    texts = {it.stem: it.read_bytes() for it in sorted(root.glob("scenarios/**/*.report"))}
     return {name: text for name, text in texts.items() if text.startswith(b"canely report ")}
 
 
@@ -90,11 +100,11 @@ SPOILED = [
 
 def bad_inputs(root):
     """Inputs that are no report, each with what is said of it."""
-    good = (root / "scenarios/one_message_no_fault.report").read_bytes()
+    good = stored_bytes(root, "one_message_no_fault.report")
     lines = good.decode().splitlines()
     yield b"", "line 1: the text is empty"
     yield b"\xff\xfe", "line 1: has bytes that no line of canely has"
-    yield (root / "scenarios/one_message_no_fault.toml").read_bytes(), None
+    yield stored_bytes(root, "one_message_no_fault.toml"), None
     yield good[: good.index(b"hypothesis") + 4], "line 6: is cut off"
     yield "".join(f"{line}\n" for line in lines[:7]).encode(), None
     for word, line, said in SPOILED:
@@ -110,7 +120,7 @@ def check_bad_inputs(root, tally):
             tally.check(False, f"a report was read where none is: {said}")
         except Malformed as error:
             tally.check(said in (None, str(error)), f"of a bad report is said {error}, and not {said}")
-    half = (root / "scenarios/three_services.report").read_bytes()[:300]
+    half = stored_bytes(root, "three_services.report")[:300]
     calls = [(name, text) for name in (REPORT, DRAW, BUSLOG) for text in (b"", b"storm 7\n", half, b"canely report 3\n")]
     for (name, text), (status, wrote, said) in at_once(calls, lambda name, text: tool(root, name, stdin=text)):
         is_good = status == 3 and not wrote and said.count("\n") == 1 and said.startswith(f"{name}: standard input: line ")
@@ -126,8 +136,8 @@ def check_ends(root, tally):
             (["--often"], subprocess.PIPE, 2, "unrecognized arguments: --often; see {name} --help"),
             (["nowhere"], subprocess.PIPE, 4, "cannot read nowhere: no such file or directory"),
             (["scenarios"], subprocess.PIPE, 4, "cannot read scenarios: is a directory"),
-            (["scenarios/three_services.report"], full, 5, "cannot write to standard output: no space left on device"),
-            (["scenarios/three_services.report"], closed, 5, "cannot write to standard output: broken pipe"),
+            ([stored_path(root, "three_services.report")], full, 5, "cannot write to standard output: no space left on device"),
+            ([stored_path(root, "three_services.report")], closed, 5, "cannot write to standard output: broken pipe"),
             (["--help"], subprocess.PIPE, 0, None),
         ]
         calls = [(name, *end) for name in (REPORT, DRAW, BUSLOG) for end in ends]

@@ -14,12 +14,11 @@ from collections import Counter
 from pathlib import Path
 
 import program as programs
-import report as reports
-import scenario as scenarios
-import storm_text
-import verdict
-from readings import LIMIT, at_once, stored, tool
-from report import Delivery, Failure, View
+from lib import report as reports
+from lib import scenario as scenarios
+from lib import storm, verdict
+from lib.report import Delivery, Failure, View
+from readings import LIMIT, at_once, stored, stored_bytes, stored_path, tool
 
 SWEEP, SHRINK, STORM = "sweep.py", "shrink.py", "storm_text.py"
 
@@ -111,12 +110,31 @@ verdict = "silent"
 reject = [0]
 """
 
+# Node 2 only rejects, which node 1 can do.
+THREE_NODES = """format = 1
+nodes = 3
+slots = 6
+[[send]]
+slot = 0
+node = 0
+service = "tot"
+[[send]]
+slot = 0
+node = 1
+service = "tot"
+[[fault]]
+slot = 1
+verdict = "silent"
+reject = [2]
+"""
+
+
 class StandIn:
     def __init__(self, root, folder):
         self.path, self.log, held = folder / "canely", folder / "log", folder / "held"
         held.write_text(HELD)
         self.log.write_text("")
-        report = root / "scenarios/one_message_no_fault.report"
+        report = root / stored_path(root, "one_message_no_fault.report")
         self.path.write_text(STAND_IN.format(python=sys.executable, report=report, log=self.log, held=held))
         self.path.chmod(self.path.stat().st_mode | stat.S_IXUSR)
 
@@ -176,7 +194,7 @@ def check_cut_off(root, tally, stand_in, folder):
 
 
 def check_sweep(root, tally, stand_in, folder):
-    made = tool(root, SWEEP, "faults", "scenarios/one_message_no_fault.toml", str(folder), "--program", str(stand_in.path), "--reject", "all")
+    made = tool(root, SWEEP, "faults", stored_path(root, "one_message_no_fault.toml"), str(folder), "--program", str(stand_in.path), "--reject", "all")
     tally.check(made == (0, f"20 cases in {folder}\n".encode(), ""), f"sweep.py faults makes {made}, and not 20 cases")
     check_cut_off(root, tally, stand_in, folder)
     ended, wrote, said = tool(root, SWEEP, "sum", str(folder))
@@ -197,7 +215,7 @@ def check_sweep(root, tally, stand_in, folder):
 def check_damaged(root, tally, stand_in, folder):
     """Sums of cases that are left or that ended otherwise, and a case that went away."""
     words = ["--program", str(stand_in.path)]
-    tool(root, SWEEP, "faults", "scenarios/one_message_no_fault.toml", str(folder), *words, "--verdicts", "silent", "--stop", "none")
+    tool(root, SWEEP, "faults", stored_path(root, "one_message_no_fault.toml"), str(folder), *words, "--verdicts", "silent", "--stop", "none")
     left = tool(root, SWEEP, "sum", str(folder))
     tally.check(left[0] == 10 and left[1].startswith(b"cases 3 judged 0 otherwise 0 left 3\n") and not left[2], f"sweep.py sum of what is not judged: {left}")
     tool(root, SWEEP, "run", str(folder), *words)
@@ -205,9 +223,10 @@ def check_damaged(root, tally, stand_in, folder):
     first, second, third = all_cases(folder, ".check")
     first.write_bytes(b"")
     first.with_suffix(".status").write_text("5 canely: cannot write\n")
+    second.write_bytes(b"")
     tally.check(tool(root, SWEEP, "sum", str(folder))[0] == 3, "sweep.py sum does not end with 3 where a case could not be written")
     tool(root, SWEEP, "run", str(folder), *words)
-    tally.check(tool(root, SWEEP, "sum", str(folder))[0] == 0, "sweep.py run does not try again a case that could not be written")
+    tally.check(tool(root, SWEEP, "sum", str(folder))[0] == 0, "sweep.py run does not try again a case that could not be written, or whose text is gone")
     first.write_bytes(first.read_bytes()[:-9])
     second.write_bytes(HELD.encode())
     third.with_suffix(".status").unlink()
@@ -223,6 +242,14 @@ def check_damaged(root, tally, stand_in, folder):
     ended, _, said = tool(root, SWEEP, "run", str(folder), *words)
     wanted = f"sweep.py: cannot go on: {third.with_suffix('.toml')}: no such file or directory; the same command does, where it was"
     tally.check(ended == 5 and said.splitlines()[-1] == wanted and said.count("\n") == 2, f"sweep.py run without a case ends with {ended}, {said!r}")
+
+
+def check_journal(root, tally, stand_in, folder):
+    """Of a scenario with a journal it is said that cases can be refused."""
+    text = 'journal = ["."]\n' + SMALL
+    found = tool(root, SWEEP, "faults", "-", str(folder), "--program", str(stand_in.path), stdin=text.encode())
+    said = f" cases in {folder}\nthe scenario has a journal: a case whose run it does not fit is refused\n"
+    tally.check(found[0] == 0 and found[1].decode().endswith(said), f"sweep.py faults of a scenario with a journal: {found}")
 
 
 def check_seeds(root, tally, folder):
@@ -248,7 +275,7 @@ def check_shrink(root, tally, stand_in, folder):
 
 def check_words(tally):
     """The first words of the generator at the state and stream of its authors' example."""
-    words = storm_text.Words(42, 54)
+    words = storm.Words(42, 54)
     found = [words.next() for _ in range(6)]
     tally.check(found == [0xA15C02B7, 0x7B47F409, 0xBA1D3330, 0x83D2F293, 0xBFA4784B, 0xCBED606E], f"the generator's words are {found}")
 
@@ -281,7 +308,7 @@ def check_storms(root, tally, program):
 def check_verdicts(root, tally, program):
     """What `canely check` writes of each stored scenario is read whole; of those that are stored as texts it is that text."""
     for name in stored(root):
-        status, text, _ = programs.call(program, ["check"], (root / f"scenarios/{name}.toml").read_bytes())
+        status, text, _ = programs.call(program, ["check"], stored_bytes(root, f"{name}.toml"))
         check = verdict.read_check(text)
         tally.check(check.status == status, f"canely check of {name} ends with {status}, and its text is that of {check.status}")
         tally.check(len(list(verdict.facts(check))) == text.count(b"\n"), f"canely check of {name}: its lines are read wrong")
@@ -296,19 +323,22 @@ def check_with_program(root, tally, program, folder):
     """A sweep of a scenario, judged by the program; one case of it is shrunk."""
     words = ["--program", str(program)]
     shape = ["--class", "tot,accept", "--verdicts", "partial,silent", "--faults", "2", "--sample", "12", "--seed", "3"]
-    made = tool(root, SWEEP, "faults", "scenarios/totcan_accept_survives_its_sender.toml", str(folder), *words, *shape)
+    made = tool(root, SWEEP, "faults", stored_path(root, "totcan_accept_survives_its_sender.toml"), str(folder), *words, *shape)
     tally.check(made[:2] == (0, f"12 cases in {folder}\n".encode()), f"sweep.py faults with two faults: {made}")
     tool(root, SWEEP, "run", str(folder), *words)
     status, wrote, _ = tool(root, SWEEP, "sum", str(folder))
     tally.check(status == 0 and wrote.startswith(b"cases 12 judged 12 otherwise 0 left 0\n"), f"sweep.py sum: {status} {wrote.decode()}")
-    text = (root / "scenarios/silent_omission_is_outside.toml").read_bytes()
+    text = stored_bytes(root, "silent_omission_is_outside.toml")
     ended, wrote, said = tool(root, SHRINK, *words, "--part", "agreement tot", stdin=text)
     lines = wrote.decode().splitlines()
     is_small = ended == 0 and "nodes = 2" in lines and lines.count("[[send]]") == lines.count("[[fault]]") == 1
     tally.check(is_small, f"shrink.py with {program.name}: {ended} {said} {lines}")
+    ended, wrote, said = tool(root, SHRINK, *words, stdin=THREE_NODES.encode())
+    lines = wrote.decode().splitlines()
+    tally.check(ended == 0 and {"nodes = 2", "slots = 4", "reject = [1]"} <= set(lines), f"shrink.py leaves a node that only rejects: {said} {lines}")
 
 
-def ends(stand_in, folder):
+def ends(root, stand_in, folder):
     """Wrong words and inputs: the words, the input, the status, and the line that is said."""
     program = ["--program", str(stand_in.path)]
     yield [SWEEP], "", 2, "sweep.py: the following arguments are required: COMMAND; see sweep.py --help"
@@ -331,14 +361,12 @@ def ends(stand_in, folder):
     yield [SWEEP, "run", str(folder), "--program", "false"], "", 2, "sweep.py: false has no command check"
     yield [SWEEP, "faults", "-", f"{folder}/new", *program], "nodes = ", 3, "sweep.py: standard input: is no scenario: Invalid value (at end of document)"
     yield [STORM, "4294967296"], "", 2, "storm_text.py: argument NUMBER: '4294967296' is no number from 0 to 4294967295; see storm_text.py --help"
-    other = "scenarios/three_services.toml"
-    wanted = f"measure.py: {other}: its messages are not those of the report"
-    yield ["measure.py", "scenarios/restart_joins.report", "--scenario", other], "", 3, wanted
-    yield ["measure.py", "--check", other], "", 3, "measure.py: standard input: line 1: the text is empty"
+    other = stored_path(root, "three_services.toml")
+    yield [SWEEP, "faults", other, f"{folder}/new", "--sample", "0"], "", 2, f"{SWEEP} faults: argument --sample: '0' is no number from 1 to 1000000; see {SWEEP} faults --help"
 
 
 def check_ends(root, tally, stand_in, folder):
-    calls = list(ends(stand_in, folder))
+    calls = list(ends(root, stand_in, folder))
     found = at_once(calls, lambda words, stdin, *_: tool(root, *words, stdin=stdin.encode()))
     for (words, _, status, line), (ended, wrote, said) in found:
         is_wanted = (ended, wrote, said) == (status, b"", f"{line}\n")
@@ -352,6 +380,7 @@ def check(root, tally, built):
         stand_in = StandIn(root, folder)
         check_sweep(root, tally, stand_in, folder / "faults")
         check_damaged(root, tally, stand_in, folder / "damaged")
+        check_journal(root, tally, stand_in, folder / "journal")
         check_seeds(root, tally, folder / "seeds")
         check_shrink(root, tally, stand_in, folder)
         check_ends(root, tally, stand_in, folder / "faults")

@@ -44,7 +44,7 @@ def names_it(text, suffix, enum, variants):
 
 
 def tools_that_name(root, words):
-    files = [it for suffix in ("py", "html", "lua") for it in sorted((root / "tools").rglob(f"*.{suffix}"))]
+    files = [it for suffix in ("py", "html", "lua", "json") for it in sorted((root / "tools").rglob(f"*.{suffix}"))]
     quoted = re.compile("|".join(rf"[\"'`]{it}[\"'`]" for it in words))
     return [str(it.relative_to(root)) for it in files if words and len(set(quoted.findall(it.read_text(encoding="utf-8")))) > 1]
 

@@ -3,6 +3,7 @@ import tempfile
 from pathlib import Path
 
 import browser
+from readings import stored_bytes, stored_path
 
 # The place of a slot and a node in the page's own coordinates; of no node, the head of the slot.
 PLACE = """(() => {{
@@ -43,7 +44,7 @@ class Page:
         self.page.click(*self.page.value(PLACE.format(slot=slot, node=node)))
 
     def opens(self, name):
-        self.page.choose_file("#file", self.root / f"scenarios/{name}.report")
+        self.page.choose_file("#file", self.root / stored_path(self.root, f"{name}.report"))
         self.page.wait(f"document.querySelector('#name').textContent === '{name}.report'")
 
 
@@ -57,7 +58,7 @@ def check_reading(view):
     view.says("pointing at node 2 in slot 3", "#lines", "bus 3 ed 0 0 x01 from 2 to 1 clean")
     for slot, node, colour in ((1, 1, GREEN), (1, 2, RED), (2, 1, GREEN), (2, 2, GREEN)):
         view.has_colour(slot, node, colour)
-    view.page.drop_file(400, 300, view.root / "scenarios/silent_omission_is_outside.report")
+    view.page.drop_file(400, 300, view.root / stored_path(view.root, "silent_omission_is_outside.report"))
     view.page.wait("document.querySelector('#name').textContent.startsWith('silent')")
     said = "3 nodes, 45 slots, 6 lines of the bus, 2 entries, bound 36, cycle 72; outside the hypothesis since slot 1 (silent)"
     view.says("a report was dropped on it", "#summary", said)
@@ -146,7 +147,7 @@ def check_moving(view):
 
 def check_all(view):
     """Every report of scenarios/ is read, and drawn near and far."""
-    for file in sorted(view.root.glob("scenarios/*.report")):
+    for file in sorted(view.root.glob("scenarios/**/*.report")):
         text = file.read_text(encoding="utf-8")
         if not text.startswith("canely report "):
             continue
@@ -162,13 +163,15 @@ BAD = [
     (b"", "line 1: the file is empty"),
     (b"storm 7\n", "line 1: this is not the first line of a report"),
     (b"refused not toml\n", "line 1: the program refused its input, and wrote no report: refused not toml"),
+    (b"\xef\xbb\xbfcanely report 1\n", "line 1: this is not the first line of a report"),
+    (b"canely check 1\n", "line 1: this is a verdict of canely check; canely replay writes the report of the same run"),
     (b"canely report 3\n", "line 1: the report is of format 3, and this viewer knows 1 and 2"),
 ]
 
 
 def check_bad_inputs(view):
     """What is no report is said with its line, and what was shown stays."""
-    good = (view.root / "scenarios/one_message_no_fault.report").read_bytes()
+    good = stored_bytes(view.root, "one_message_no_fault.report")
     half = good[: good.index(b"node 1")]
     others = [(half, f"line {half.count(10) + 1}: the text ends before its line 'end'"), (good + b"more\n", f"line {good.count(10) + 1}: stands after the line 'end'")]
     others.append((good.replace(b"bus 2", b"bus 1"), "line 5: slot 1 does not come after slot 1"))

@@ -56,7 +56,7 @@ class Vocabulary:
     def __init__(self, root):
         self.root = root
         parts = ["crates/*/src/**/*.rt", "crates/*/specs/**/*.antt", "crates/*/proofs/**/*.antt"]
-        others = ["crates.txt", "HANDLES", "scenarios/**/*.toml", "scenarios/**/*.report", "crates/*_trials/stdin", ".ci/*.py", "benches/*.py", "tools/*.py"]
+        others = ["crates.txt", "HANDLES", "scenarios/**/*.toml", "scenarios/**/*.report", "crates/*_trials/stdin", ".ci/*.py", "benches/*.py", "tools/**/*.py"]
         self.code = {it: set(re.findall(WORD, code_of(it))) for part in [*parts, *others] for it in root.glob(part) if it.is_file()}
         files = [it for it in self.code if it.suffix in (".rt", ".antt")]
         self.members = {it for file in files if file.suffix == ".rt" for it in self.members_of(file)}

@@ -1,5 +1,5 @@
 #!/usr/bin/env python3
-"""Runs `rt ci` at the top, and prints the processor time that it took of each crate, as the table of docs/architecture.md.
+"""Runs `rt ci` at the top, and prints the processor time that it took of each crate, as the table of docs/gate.md.
 
 Usage: benches/gate.py [NAME..]
 

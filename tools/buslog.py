@@ -11,9 +11,8 @@ from typing import NamedTuple
 
 sys.dont_write_bytecode = True
 
-import command
-import wire
-from report import Frame, report_from
+from lib import command, wire
+from lib.report import Frame, report_from
 
 MICROSECONDS = 1_000_000
 

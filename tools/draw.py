@@ -8,15 +8,14 @@ import sys
 
 sys.dont_write_bytecode = True
 
-import command
-from chart import chart
-from columns import columns, fold
-from lines import Malformed
-from report import report_from
-from verdict import read_check
+from lib import command
+from lib.chart import chart
+from lib.columns import MOST_SLOT, columns, fold
+from lib.picture import LEAST_PAGE, PAGE_WIDTH, picture
+from lib.report import report_from
+from lib.verdict import check_from
 
-LEAST_CHART_WIDTH, LEAST_PAGE_WIDTH, PAGE_WIDTH, MOST_WIDTH = 40, 560, 1000, 100_000
-MOST_SLOT = 10**9
+LEAST_CHART_WIDTH, MOST_WIDTH = 40, 100_000
 # More columns than these no page shows, and more marks of nodes: those with the least in them go.
 MOST_COLUMNS, MOST_MARKS = 150, 3_000
 
@@ -36,22 +35,23 @@ def arguments():
     return parser.parse_args()
 
 
-def check_from(path):
-    try:
-        return read_check(command.read_bytes(path))
-    except Malformed as error:
-        raise command.Failure(command.REFUSED, f"{path}: {error}") from None
+def check_slots(given, report):
+    """Ends the command where no slot of the run is asked for."""
+    slots = report.parameters["slots"]
+    if given.first > given.last:
+        raise command.Failure(command.WRONG_ARGUMENTS, f"--from {given.first} comes after --to {given.last}")
+    if given.first >= slots:
+        raise command.Failure(command.WRONG_ARGUMENTS, f"--from {given.first} comes after the run, which has {slots} slots")
 
 
 def draw(given):
     report = report_from(given.file)
-    check = check_from(given.check) if given.check else None
+    check = check_from(given.check, report) if given.check else None
+    check_slots(given, report)
     shown = columns(report, given.first, given.last, given.all)
     if given.svg:
-        from picture import picture
-
         shown = shown if given.all else fold(shown, min(MOST_COLUMNS, MOST_MARKS // len(report.nodes)))
-        width = max(given.width or PAGE_WIDTH, LEAST_PAGE_WIDTH)
+        width = max(given.width or PAGE_WIDTH, LEAST_PAGE)
         lines = picture(report, shown, check, given.title, width, given.each)
     else:
         width = given.width or max(shutil.get_terminal_size((100, 24)).columns, LEAST_CHART_WIDTH)

@@ -12,14 +12,13 @@ from typing import NamedTuple, Optional
 
 sys.dont_write_bytecode = True
 
-import command
-from lines import Malformed, set_text
-from report import CLASSES, Delivery, Failure, View, report_from
-from scenario import keys_of, scenario_from
-from verdict import read_check
-from wire import ERROR_FRAME_BITS, SLOT_BITS, identifier, length
+from lib import command
+from lib.report import Delivery, Failure, View, report_from
+from lib.scenario import keys_of, scenario_from
+from lib.verdict import check_from
+from lib.wire import ERROR_FRAME_BITS, SLOT_BITS, identifier, length
+from lib.words import CLASSES, FAULTY, SERVICES
 
-SERVICES = ("ed", "rel", "tot")
 INTERMISSION_BITS = 3
 
 
@@ -91,7 +90,7 @@ def by_class(facts):
         verdicts = Counter(slot.verdict for slot in facts.frames if slot.frame.kind == kind)
         count = sum(verdicts.values())
         if count:
-            errors = " ".join(f"{it} {verdicts[it]}" for it in ("lost", "partial", "silent"))
+            errors = " ".join(f"{it} {verdicts[it]}" for it in FAULTY)
             yield f"class {kind} frames {count} {errors} permille {permille(count, slots)}"
 
 
@@ -184,29 +183,29 @@ def stops(facts, members, times):
             yield line if views else f"{line} removed -"
 
 
-def asks_from(given):
+def asks_from(given, report):
     """The asks, as far as an argument tells of them."""
     if given.scenario:
-        try:
-            found = scenario_from(given.scenario)
-            slots = dict(zip(keys_of(found.get("send", [])), (it["slot"] for it in found.get("send", []))))
-            return Asks(slots, tuple(sorted(set(found["members"]))) if "members" in found else None)
-        except (KeyError, TypeError):
-            raise command.Failure(command.REFUSED, f"{given.scenario}: is no scenario that the program reads") from None
+        return asks_of_scenario(scenario_from(given.scenario), given.scenario, report)
     if given.check:
-        try:
-            found = read_check(command.read_bytes(given.check))
-        except Malformed as error:
-            raise command.Failure(command.REFUSED, f"{given.check}: {error}") from None
-        return Asks({(it.service, it.origin, it.seq): it.slot for it in found.messages}, None)
+        return Asks({(it.service, it.origin, it.seq): it.slot for it in check_from(given.check, report).messages}, None)
     return Asks({}, None)
 
 
-def check_asks(report, asks, given):
-    """Ends the command where the asks are those of another run."""
-    keys = {(it.service, it.origin, it.seq) for it in report.messages}
-    if asks.slots and (set(asks.slots) != keys or max(asks.slots.values()) >= report.parameters["slots"]):
-        raise command.Failure(command.REFUSED, f"{given.scenario or given.check}: its messages are not those of the report")
+def asks_of_scenario(found, place, report):
+    """The asks of a scenario, which has to be that of the report."""
+    try:
+        sends = found.get("send", [])
+        slots = dict(zip(keys_of(sends), (it["slot"] for it in sends)))
+        members = tuple(sorted(set(found["members"]))) if "members" in found else None
+    except (KeyError, TypeError):
+        raise command.Failure(command.REFUSED, f"{place}: is no scenario that the program reads") from None
+    given = {"format": report.format, **report.parameters}
+    other = [key for key in given if key in found and found[key] != given[key]]
+    if other:
+        raise command.Failure(command.REFUSED, f"{place}: {other[0]} is {found[other[0]]}, and {given[other[0]]} in the report")
+    report.check_asks(slots, place)
+    return Asks(slots, members)
 
 
 def numbers(report, asks, bitrate, window):
@@ -223,8 +222,7 @@ def numbers(report, asks, bitrate, window):
 
 def measure(given):
     report = report_from(given.file)
-    asks = asks_from(given)
-    check_asks(report, asks, given)
+    asks = asks_from(given, report)
     command.write(numbers(report, asks, given.bitrate, given.window))
 
 

@@ -13,13 +13,10 @@ from typing import NamedTuple
 
 sys.dont_write_bytecode = True
 
-import command
-from report import MOST_NODES
-from wire import SLOT_BITS
+from lib import command
+from lib.wire import SLOT_BITS
+from lib.words import DEFAULTS, FORMATS, LIMITS, MOST_NODES, format_for
 
-MOST_SLOTS = {1: 100_000, 2: 400_000}
-LEAST_NODES, MOST_LAG, MOST_OMIT, MOST_ERRORS, MOST_LENGTH = 2, 8, 8, 1_000, 1_000_000
-DEFAULT_CONFIRM = 10
 UNITS = {"us": Fraction(1, 1_000_000), "ms": Fraction(1, 1_000), "s": Fraction(1)}
 
 
@@ -36,7 +33,7 @@ class Params(NamedTuple):
 
     @property
     def format(self):
-        return 1 if self.nodes <= MOST_NODES[1] else 2
+        return format_for(self.nodes)
 
 
 def least_bound(nodes, lag, errors):
@@ -91,7 +88,8 @@ BOUNDS = {
     ),
     "admit": Bound(
         lambda p: p.cycle - 1 + p.bound + p.lag,
-        "at most, from a JOIN that was carried clean to the first views with its sender; no restarts, else see known_admission",
+        "at most, from a JOIN that was carried clean to the first views with its sender, if no node that gets it has the sender in its view; "
+        "no restarts, else see known_admission",
         "law admission",
     ),
     "take-part": Bound(
@@ -99,9 +97,16 @@ BOUNDS = {
         "exactly, from the slot of a restart to the first slot in which the node takes part",
         "rule of restarts",
     ),
+    "wait": Bound(
+        lambda p: p.silence + p.cycle + p.bound + p.lag,
+        "at least, from the stop of a node that all have in their views to a JOIN of its next incarnation, so that it counts for certain; "
+        "a JOIN does nothing at a node that still has its sender in its view, and no node keeps it",
+        "law removal",
+    ),
     "return": Bound(
         lambda p: 1 + p.bound + p.lag + p.cycle + p.bound + p.lag,
-        "at most, from the slot of a restart to the first views with the node, where its JOIN is carried clean in the slot after it takes part",
+        "at most, from the slot of a restart to the first views with the node, where its JOIN is carried clean in the slot after it takes part, "
+        "if no node that gets it has the node in its view; else see wait",
         "rules of restarts and views",
     ),
 }
@@ -131,10 +136,10 @@ def time(text):
 def arguments():
     number = command.number_between
     parser = command.Parser(prog="params.py", description="Computes parameters and what follows from them, in slots and milliseconds.")
-    parser.add_argument("--nodes", type=number(LEAST_NODES, MOST_NODES[2]), metavar="N", help="how many nodes; without it the most for which the wished times hold")
-    parser.add_argument("--lag", type=number(0, MOST_LAG), default=0, metavar="N")
-    parser.add_argument("--omit", type=number(0, MOST_OMIT), default=1, metavar="N")
-    parser.add_argument("--errors", type=number(0, MOST_ERRORS), default=2, metavar="N")
+    parser.add_argument("--nodes", type=number(LIMITS.least_nodes, MOST_NODES), metavar="N", help="how many nodes; without it the most for which the wished times hold")
+    parser.add_argument("--lag", type=number(0, LIMITS.lag), default=DEFAULTS.lag, metavar="N")
+    parser.add_argument("--omit", type=number(0, LIMITS.omit), default=DEFAULTS.omit, metavar="N")
+    parser.add_argument("--errors", type=number(0, LIMITS.errors), default=DEFAULTS.errors, metavar="N")
     parser.add_argument("--bitrate", type=number(1, 10**9), default=500_000, metavar="N", help="bits per second, 500000 where not given")
     for name in (*FORMULAS, "confirm"):
         parser.add_argument(f"--{name}", type=time, metavar="TIME", help="this parameter, in place of its default")
@@ -156,8 +161,8 @@ def parameter(given, name, found, least, slot):
     value = wished.in_slots(slot)
     if value < least:
         raise Refused(f"{name} {wished.text} is {value} slots, and {found['nodes']} nodes need {least}, which are {milliseconds(least, slot)} ms")
-    if value > MOST_LENGTH:
-        raise Refused(f"{name} {wished.text} is {value} slots, and the most is {MOST_LENGTH}")
+    if value > LIMITS.given:
+        raise Refused(f"{name} {wished.text} is {value} slots, and the most is {LIMITS.given}")
     return value
 
 
@@ -166,7 +171,7 @@ def params_of(given, nodes, slot):
     found = {"nodes": nodes, "lag": given.lag, "omit": given.omit, "errors": given.errors}
     for name, (least, _) in FORMULAS.items():
         found[name] = parameter(given, name, found, least(found), slot)
-    confirm = given.confirm.in_slots(slot) if given.confirm else DEFAULT_CONFIRM
+    confirm = given.confirm.in_slots(slot) if given.confirm else DEFAULTS.confirm
     if not 1 <= confirm <= found["cycle"]:
         raise Refused(f"confirm {given.confirm.text} is {confirm} slots, and has to be between 1 and cycle, which is {found['cycle']}")
     return Params(confirm=confirm, **found)
@@ -184,7 +189,7 @@ def check_wishes(given, params, slot):
 def wanted_params(given, slot):
     """The parameters for the nodes that are given, or for the most for which all holds."""
     refused = None
-    for nodes in [given.nodes] if given.nodes else reversed(range(LEAST_NODES, MOST_NODES[2] + 1)):
+    for nodes in [given.nodes] if given.nodes else reversed(range(LIMITS.least_nodes, MOST_NODES + 1)):
         try:
             params = params_of(given, nodes, slot)
             check_wishes(given, params, slot)
@@ -212,7 +217,7 @@ def table(params, bitrate, slot):
     for name, (_, formula) in FORMULAS.items():
         yield row(name, getattr(params, name), slot, formula + (", top = 3 * nodes^2 + 2 * nodes" if name == "bound" else ""))
     yield row("confirm", params.confirm, slot, "1, and at most cycle")
-    yield row("slots", MOST_SLOTS[params.format], slot, "1, and at most this many")
+    yield row("slots", FORMATS[params.format].slots, slot, "1, and at most this many")
     yield ""
     yield f"{'bound':10} {'slots':>7} {'ms':>11}  rests on"
     for name, bound in BOUNDS.items():
@@ -228,7 +233,7 @@ def scenario(given, params):
     longest = max(bound.slots(params) for bound in BOUNDS.values())
     yield f"format = {params.format}"
     yield f"nodes = {params.nodes}"
-    yield f"slots = {min(2 * longest, MOST_SLOTS[params.format])}"
+    yield f"slots = {min(2 * longest, FORMATS[params.format].slots)}"
     yield from (f"{name} = {getattr(params, name)}" for name in ("lag", "omit", "errors"))
     # the formulas of the program give the others
     yield from (f"{name} = {getattr(params, name)}" for name in (*FORMULAS, "confirm") if getattr(given, name))

@@ -1,5 +1,5 @@
 #!/usr/bin/env python3
-"""Draws the pictures of the pages, docs/pictures/NAME.svg, each from scenarios/NAME.report:
+"""Draws the pictures of the pages, docs/pictures/NAME.svg, each from the report NAME.report of scenarios/:
 
     tools/pictures.py [FOLDER]
 """
@@ -8,11 +8,10 @@ from pathlib import Path
 
 sys.dont_write_bytecode = True
 
-import command
-from columns import columns
-from draw import MOST_SLOT, PAGE_WIDTH
-from picture import picture
-from report import report_from
+from lib import command
+from lib.columns import MOST_SLOT, columns
+from lib.picture import PAGE_WIDTH, picture
+from lib.report import report_from
 
 ROOT = Path(__file__).resolve().parent.parent
 
@@ -29,17 +28,19 @@ TITLES = {
 
 def drawn(name):
     """The text of a picture."""
-    report = report_from(str(ROOT / f"scenarios/{name}.report"))
+    (place,) = ROOT.glob(f"scenarios/**/{name}.report")
+    report = report_from(str(place))
     lines = picture(report, columns(report, 0, MOST_SLOT, False), None, TITLES[name], PAGE_WIDTH, False)
     return "".join(f"{line}\n" for line in lines)
 
 
 def draw_all(folder):
-    for name in TITLES:
-        try:
+    try:
+        folder.mkdir(parents=True, exist_ok=True)
+        for name in TITLES:
             (folder / f"{name}.svg").write_text(drawn(name), encoding="utf-8")
-        except OSError as error:
-            raise command.Failure(command.WRITE_FAILED, f"cannot write to {folder}: {command.cause(error)}") from None
+    except OSError as error:
+        raise command.Failure(command.WRITE_FAILED, f"cannot write to {folder}: {command.cause(error)}") from None
 
 
 def main():

@@ -2,8 +2,9 @@
 """Runs the program from the sources of this tree: tools/run.py check < SCENARIO > VERDICT
 
 Where `tools/build.py`, `rt run` or `rt ci` has left a program of these sources, that one is run. Else `rt try` builds one without a
-proof, which takes one to four minutes, and runs it at once: for short runs, since it stops a program after 60 seconds or past a
-megabyte of output. The words after the script's name are those of `canely`; the exit status is that of the program."""
+proof, which takes one to four minutes, more on a loaded machine, and runs it at once. That is for short runs: it stops a program after
+60 seconds, or past a megabyte of output. The words after the script's name are those of `canely`. The exit status is that of the
+program, and 1 where there is none and no `rt`."""
 import os
 import shutil
 import subprocess
@@ -12,10 +13,14 @@ import threading
 import time
 from pathlib import Path
 
+sys.dont_write_bytecode = True
+
+from lib import command
+
 ROOT = Path(__file__).resolve().parent.parent
 PROGRAMS = (ROOT / "build/canely", ROOT / "crates/canely/out/canely")
 # Seconds between two signs of life.
-PAUSE = 5
+PAUSE = 10
 
 
 def built():
@@ -25,36 +30,45 @@ def built():
     return max(fresh, key=lambda it: it.stat().st_mtime, default=None)
 
 
+def say(line):
+    print(f"run.py: {line}", file=sys.stderr, flush=True)
+
+
 def tell(ended):
     """Says on standard error that the build goes on, until it has ended."""
     began = time.monotonic()
     while not ended.wait(PAUSE):
-        print(f"run.py: still building, {time.monotonic() - began:.0f} s", file=sys.stderr, flush=True)
+        say(f"still building, {time.monotonic() - began:.0f} s")
+
+
+def copy(source, ended):
+    """Hands on what the program writes, as it comes. The first of it says that the build has ended."""
+    while piece := source.read1(65536):
+        ended.set()
+        command.write_bytes([piece])
 
 
 def build_and_run(words):
     if shutil.which("rt") is None:
-        print("run.py: no rt on the path: put the folder bin of the Rattle kit there", file=sys.stderr)
-        return 1
-    print("run.py: building the program without a proof, which takes one to four minutes", file=sys.stderr, flush=True)
+        raise command.Failure(command.NOT_BUILT, "no rt on the path: put the folder bin of the Rattle kit there")
+    say("building the program without a proof, which takes one to four minutes, more on a loaded machine")
     ended = threading.Event()
-    teller = threading.Thread(target=tell, args=(ended,), daemon=True)
-    teller.start()
-    ran = subprocess.Popen(["rt", "try", "--", *words], cwd=ROOT / "crates/canely", stdout=subprocess.PIPE)
-    while piece := ran.stdout.read1(65536):
-        ended.set()
-        sys.stdout.buffer.write(piece)
-        sys.stdout.buffer.flush()
+    threading.Thread(target=tell, args=(ended,), daemon=True).start()
+    with subprocess.Popen(["rt", "try", "--", *words], cwd=ROOT / "crates/canely", stdout=subprocess.PIPE) as ran:
+        copy(ran.stdout, ended)
     ended.set()
-    return ran.wait()
+    return ran.returncode
 
 
-def main():
-    words = sys.argv[1:]
+def run(words):
     program = built()
     if program is not None:
         os.execv(program, [str(program), *words])
     return build_and_run(words)
+
+
+def main():
+    return command.run("run.py", lambda: run(sys.argv[1:]))
 
 
 if __name__ == "__main__":

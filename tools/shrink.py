@@ -11,13 +11,14 @@ from typing import NamedTuple
 
 sys.dont_write_bytecode = True
 
-import command
-from canely import called, check_words, said_by
-from cases import show
-from lines import Malformed
-from scenario import TABLES, read_scenario, scenario_lines, scenario_text
-from smaller import WAYS
-from verdict import BROKEN, HEAD, HEAD_LINES, HELD, OPEN, Check, read_check
+from lib import command
+from lib.canely import called, check_words, said_by
+from lib.cases import show
+from lib.lines import Malformed
+from lib.scenario import read_scenario, scenario_lines, scenario_text
+from lib.smaller import WAYS
+from lib.verdict import BROKEN, HEAD, HEAD_LINES, HELD, OPEN, Check, read_check
+from lib.words import TABLES
 
 
 class Verdict(NamedTuple):

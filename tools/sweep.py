@@ -15,35 +15,35 @@ import sys
 
 sys.dont_write_bytecode = True
 
-import command
-from canely import check_words, replayed
-from cases import case_paths, read_made, run_cases, write_cases
-from faults import STOPS, VERDICTS, Shape, rules_of, with_rule
-from outcome import junit, outcomes, table
-from report import CLASSES, MOST_NODES
-from scenario import read_scenario, scenario_text
-from seeds import Draw, Shapes, scenario_of
-from storm_text import storm
-from verdict import BROKEN, OPEN
+from lib import command
+from lib.canely import check_words, replayed
+from lib.cases import case_paths, read_made, run_cases, write_cases
+from lib.faults import STOPS, Shape, rules_of, with_rule
+from lib.outcome import junit, outcomes, table
+from lib.scenario import read_scenario, scenario_text
+from lib.seeds import Draw, Shapes, scenario_of
+from lib.storm import storm
+from lib.verdict import BROKEN, OPEN
+from lib.words import CLASSES, FAULTY, FORMATS, LIMITS, MOST_NODES
 
-MOST_CASES, MOST_NUMBER, MOST_JOBS = 1_000_000, 0xFFFF_FFFF, 1024
+MOST_CASES, MOST_JOBS = 1_000_000, 1024
 # How often a pair of faults is drawn anew that was drawn before, until there seem to be no more.
 MOST_DRAWS = 1000
 # Of how many runs with a first fault the second ones are kept at a time.
 MOST_RUNS = 4096
 # The counts of a drawn scenario: the argument, the range where it is not given, and the most.
 RANGES = {
-    "nodes": ((2, 4), MOST_NODES[2]),
-    "slots": ((20, 200), 100_000),
-    "omit": ((0, 2), 8),
-    "errors": ((2, 4), 1_000),
+    "nodes": ((2, 4), MOST_NODES),
+    "slots": ((20, 200), FORMATS[1].slots),
+    "omit": ((0, 2), LIMITS.omit),
+    "errors": ((2, 4), LIMITS.errors),
     "sends": ((1, 4), 1_000),
     "faults": ((0, 3), 1_000),
-    "joins": ((0, 0), 1_000),
-    "leaves": ((0, 0), 1_000),
-    "restarts": ((0, 0), 15),
+    "joins": ((0, 0), LIMITS.joins),
+    "leaves": ((0, 0), LIMITS.leaves),
+    "restarts": ((0, 0), LIMITS.restarts_of_node),
 }
-LEAST = {"nodes": 2, "slots": 1}
+LEAST = {"nodes": LIMITS.least_nodes, "slots": 1}
 
 
 def words_of(known):
@@ -72,7 +72,7 @@ def range_between(least, most):
 
 
 def rejects(text):
-    return MOST_NODES[2] if text == "all" else command.number_between(1, MOST_NODES[2])(text)
+    return MOST_NODES if text == "all" else command.number_between(1, MOST_NODES)(text)
 
 
 # ---- making
@@ -153,12 +153,13 @@ def make_seeds(given):
 
 
 def make_storms(given):
-    made(given, (storm(given.first + number & MOST_NUMBER) for number in range(given.count)))
+    made(given, (storm(given.first + number & LIMITS.storm) for number in range(given.count)))
 
 
 def made(given, scenarios, scenario=None):
     count = write_cases(given.folder, scenarios, sys.argv[1:], scenario)
-    command.write([f"{count} cases in {given.folder}"])
+    has_journal = scenario is not None and "journal" in scenario
+    command.write([f"{count} cases in {given.folder}", *(["the scenario has a journal: a case whose run it does not fit is refused"] if has_journal else [])])
 
 
 # ---- judging
@@ -209,18 +210,18 @@ def faults_arguments(parser):
     folder(parser)
     program(parser)
     parser.add_argument("--faults", type=command.number_between(1, 2), default=1, metavar="N", help="how many faults each case has more, 1 or 2")
-    parser.add_argument("--verdicts", type=words_of(VERDICTS), default=VERDICTS, metavar="LIST", help="lost,partial,silent where not given")
+    parser.add_argument("--verdicts", type=words_of(FAULTY), default=FAULTY, metavar="LIST", help="lost,partial,silent where not given")
     parser.add_argument("--reject", type=rejects, default=1, metavar="N", help="the most receivers that reject together, 1 where not given, or all")
     parser.add_argument("--stop", type=words_of(STOPS), default=STOPS, metavar="LIST", help="none,senders where not given: with and without a stop of the senders")
     parser.add_argument("--class", type=words_of(CLASSES), default=(), dest="classes", metavar="LIST", help="frames of these classes alone")
-    number(parser, "--sample", MOST_CASES, 0, "so many of them alone")
-    number(parser, "--seed", MOST_NUMBER, 1, "the number from which the sample is drawn")
+    parser.add_argument("--sample", type=command.number_between(1, MOST_CASES), metavar="N", help="so many of them alone")
+    number(parser, "--seed", LIMITS.storm, 1, "the number from which the sample is drawn")
     parser.set_defaults(work=make_faults)
 
 
 def drawn_arguments(parser, work):
     folder(parser)
-    number(parser, "--first", MOST_NUMBER, 0, "the first number, 0 where not given")
+    number(parser, "--first", LIMITS.storm, 0, "the first number, 0 where not given")
     number(parser, "--count", MOST_CASES, 100, "how many, 100 where not given")
     parser.set_defaults(work=work)
 
@@ -230,7 +231,7 @@ def seeds_arguments(parser):
     for name, (default, most) in RANGES.items():
         words = f"how many, as 3 or 2-5; {default[0]}-{default[1]} where not given"
         parser.add_argument(f"--{name}", type=range_between(LEAST.get(name, 0), most), default=default, metavar="RANGE", help=words)
-    parser.add_argument("--verdicts", type=words_of(VERDICTS), default=VERDICTS, metavar="LIST", help="of faults, beside clean")
+    parser.add_argument("--verdicts", type=words_of(FAULTY), default=FAULTY, metavar="LIST", help="of faults, beside clean")
 
 
 def run_arguments(parser):
@@ -261,8 +262,7 @@ def arguments():
 
 def main():
     given = arguments()
-    ended = []
-    return command.run("sweep.py", lambda: ended.append(given.work(given))) or ended[0] or 0
+    return command.run("sweep.py", lambda: given.work(given))
 
 
 if __name__ == "__main__":

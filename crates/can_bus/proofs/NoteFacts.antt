@@ -18,30 +18,30 @@ use Rattle.can_bus.specs.Each.{each}
 use Rattle.can_bus.specs.Controllers.{nodes_of}
 use Rattle.can_bus.proofs.NodeFacts.{runs_seen, state_past}
 
--- ---- the takers
+-- ---- the acceptors
 
 taking : (l r s a : Bool) → ((l && r) && not (l && s) && a) ≡ (l && (r && not s && a))
 taking true r s a = refl
 taking false r s a = refl
 
-takers_are : (nodes : List NodeState) (f : FrameParts) (verdict : Verdict) (running senders takers : Nodes) → running ≡ running_nodes nodes
-    → senders ≡ those_where (λ i. sends f (node_at nodes i)) → ((i : ℕ) → has takers i ≡ (has running i && not (has senders i) && lets_accept verdict i))
-    → takers ≡ those_where (λ i. runs (node_at nodes i) && not (sends f (node_at nodes i)) && lets_accept verdict i)
-takers_are nodes f verdict running senders takers run sent step =
-    same_as_those_where takers (λ i. runs (node_at nodes i) && not (sends f (node_at nodes i)) && lets_accept verdict i) (λ i.
+acceptors_are : (nodes : List NodeState) (f : FrameParts) (verdict : Verdict) (running senders acceptors : Nodes) → running ≡ running_nodes nodes
+    → senders ≡ those_where (λ i. sends f (node_at nodes i)) → ((i : ℕ) → has acceptors i ≡ (has running i && not (has senders i) && lets_accept verdict i))
+    → acceptors ≡ those_where (λ i. runs (node_at nodes i) && not (sends f (node_at nodes i)) && lets_accept verdict i)
+acceptors_are nodes f verdict running senders acceptors run sent step =
+    same_as_those_where acceptors (λ i. runs (node_at nodes i) && not (sends f (node_at nodes i)) && lets_accept verdict i) (λ i.
     step i
     ∙ ap (λ b. b && not (has senders i) && lets_accept verdict i) (ap (λ s. has s i) run ∙ has-those_where (λ k. runs (node_at nodes k)) i)
     ∙ ap (λ b. (nat_lt i most_nodes && runs (node_at nodes i)) && not b && lets_accept verdict i) (ap (λ s. has s i) sent ∙ has-those_where (λ k. sends f (node_at nodes k)) i)
     ∙ taking (nat_lt i most_nodes) (runs (node_at nodes i)) (sends f (node_at nodes i)) (lets_accept verdict i))
 
-pub transmitted : (slot : ℕ) (nodes : List NodeState) (outcome : Outcome) (f : FrameParts) (senders running takers none : Nodes) (verdict : Verdict) → outcome ≡ Won f senders
-    → IsContestOf nodes outcome → running ≡ running_nodes nodes → ((i : ℕ) → has takers i ≡ (has running i && not (has senders i) && lets_accept verdict i)) → none ≡ nobody
-    → ◌≡◌ {A = SlotNote} (record { slot = slot; frame = Some f; senders = senders; takers = takers; verdict = verdict; stops = none }) (transmission slot nodes verdict (winner nodes))
-transmitted slot nodes outcome f senders running takers none verdict won contest run step no_stops =
+pub transmitted : (slot : ℕ) (nodes : List NodeState) (outcome : Outcome) (f : FrameParts) (senders running acceptors none : Nodes) (verdict : Verdict) → outcome ≡ Won f senders
+    → IsContestOf nodes outcome → running ≡ running_nodes nodes → ((i : ℕ) → has acceptors i ≡ (has running i && not (has senders i) && lets_accept verdict i)) → none ≡ nobody
+    → ◌≡◌ {A = SlotNote} (record { slot = slot; frame = Some f; senders = senders; takers = acceptors; verdict = verdict; stops = none }) (transmission slot nodes verdict (winner nodes))
+transmitted slot nodes outcome f senders running acceptors none verdict won contest run step no_stops =
     let P : Outcome → Type 0 = λ o. IsContestOf nodes o in
     let it : IsContestOf nodes (Won f senders) = subst P won contest in
-    let take : takers ≡ those_where (λ i. runs (node_at nodes i) && not (sends f (node_at nodes i)) && lets_accept verdict i) =
-    takers_are nodes f verdict running senders takers run it.senders step in
+    let take : acceptors ≡ those_where (λ i. runs (node_at nodes i) && not (sends f (node_at nodes i)) && lets_accept verdict i) =
+    acceptors_are nodes f verdict running senders acceptors run it.senders step in
     (λ j. record { slot = slot; frame = Some f; senders = it.senders j; takers = take j; verdict = verdict; stops = no_stops j })
     ∙ ap (transmission slot nodes verdict) it.frame
 

@@ -10,7 +10,7 @@ use can_arbiter::Outcome;
 use cany_base::{NodeSet, Slot, SlotNote, Verdict};
 
 /// Those of the running nodes that accept the frame.
-fn takers(running: NodeSet, senders: NodeSet, verdict: &Verdict) -> NodeSet
+fn acceptors(running: NodeSet, senders: NodeSet, verdict: &Verdict) -> NodeSet
     ensures { (i : ℕ) → has result i ≡ (has running i && not (has senders i) && lets_accept verdict.now i) }
 {
     let receivers = running.minus(senders);
@@ -37,7 +37,7 @@ pub(crate) fn transmission(
             slot,
             frame: Some(*frame),
             senders: *senders,
-            takers: takers(running, *senders, verdict),
+            takers: acceptors(running, *senders, verdict),
             verdict: *verdict,
             stops: NodeSet::empty(),
         },

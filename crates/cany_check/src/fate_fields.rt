@@ -9,19 +9,19 @@ ghost use Rattle.cany_text.specs.ReportLines.{set_text};
 use crate::findings::Told;
 use crate::record::Slots;
 use cany_base::{NodeSet, Slot};
-use cany_log::Field;
+use cany_log::TextField;
 
 /// No field.
-pub(crate) const NOTHING: Field = Field::NumberIfAny("", None);
+pub(crate) const NOTHING: TextField = TextField::NumberIfAny("", None);
 
 /// The pieces of a fate, one after another.
 #[derive(Clone, Copy)]
 pub(crate) struct FateFields {
-    pub(crate) first: Field,
-    pub(crate) second: Field,
-    pub(crate) third: Field,
-    pub(crate) fourth: Field,
-    pub(crate) fifth: Field,
+    pub(crate) first: TextField,
+    pub(crate) second: TextField,
+    pub(crate) third: TextField,
+    pub(crate) fourth: TextField,
+    pub(crate) fifth: TextField,
 }
 
 /// A fate of these words.
@@ -31,7 +31,7 @@ pub(crate) fn named(words: &'static str) -> FateFields
     ensures short { fate_room result ≤ most_fate_bytes }
 {
     FateFields {
-        first: Field::Text(words),
+        first: TextField::Text(words),
         second: NOTHING,
         third: NOTHING,
         fourth: NOTHING,
@@ -46,8 +46,8 @@ pub(crate) fn named_set(words: &'static str, nodes: NodeSet) -> FateFields
     ensures short { fate_room result ≤ most_fate_bytes }
 {
     FateFields {
-        first: Field::Text(words),
-        second: Field::Set(nodes),
+        first: TextField::Text(words),
+        second: TextField::Set(nodes),
         third: NOTHING,
         fourth: NOTHING,
         fifth: NOTHING,
@@ -60,40 +60,40 @@ pub(crate) fn apart_fields(told: &Told) -> FateFields
     ensures short { fate_room result ≤ most_fate_bytes }
 {
     FateFields {
-        first: Field::Text("apart has"),
-        second: Field::Set(told.has),
-        third: Field::Text("lacks"),
-        fourth: Field::Set(told.lacks),
+        first: TextField::Text("apart has"),
+        second: TextField::Set(told.has),
+        third: TextField::Text("lacks"),
+        fourth: TextField::Set(told.lacks),
         fifth: NOTHING,
     }
 }
 
 /// The word, where the test holds.
-pub(crate) fn text_if(test: bool, word: &'static str) -> Field
+pub(crate) fn text_if(test: bool, word: &'static str) -> TextField
     ensures texts { texts_of result ≡ line.text_if test word.now }
     ensures short { most_bytes result ≤ 22 + length word.now }
 {
-    if test { Field::Text(word) } else { NOTHING }
+    if test { TextField::Text(word) } else { NOTHING }
 }
 
 /// The first slot, or a dash.
-pub(crate) fn first_or_dash(slots: Option<Slots>) -> Field
+pub(crate) fn first_or_dash(slots: Option<Slots>) -> TextField
     ensures texts { texts_of result ≡ parts.first_or_dash slots }
     ensures short { most_bytes result ≤ 22 }
 {
     match slots {
-        Some(slots) => Field::Number(slots.first),
-        None => Field::Text("-"),
+        Some(slots) => TextField::Number(slots.first),
+        None => TextField::Text("-"),
     }
 }
 
 /// The last slot, where there is one.
-pub(crate) fn last_if_any(slots: Option<Slots>) -> Field
+pub(crate) fn last_if_any(slots: Option<Slots>) -> TextField
     ensures texts { texts_of result ≡ parts.last_if_any slots }
     ensures short { most_bytes result ≤ 22 }
 {
     match slots {
-        Some(slots) => Field::Number(slots.last),
+        Some(slots) => TextField::Number(slots.last),
         None => NOTHING,
     }
 }

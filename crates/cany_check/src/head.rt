@@ -16,7 +16,7 @@ use crate::findings::{Judgement, Part};
 use crate::judging::{Findings, PARTS};
 use cany_base::{Format, Service};
 use cany_io::{Failed, Sink};
-use cany_log::{Field, write_hypothesis, write_short_line};
+use cany_log::{TextField, write_hypothesis, write_short_line};
 use cany_model::Break;
 use cany_text::names::service_name;
 
@@ -40,7 +40,7 @@ fn write_first_line<K: Sink>(format: Format, sink: &mut K) -> Result<(), Failed>
 {
     write_short_line(
         "canely check",
-        &[Field::Number(u64::from(format.number()))],
+        &[TextField::Number(u64::from(format.number()))],
         sink,
     )
 }
@@ -62,7 +62,7 @@ fn write_judgement<K: Sink>(
     ensures { IsWritten (line_of (words.now ∷ head.judgement_name judgement ∷ [])) result
         (K.taken sink.old) (K.taken sink.new) (K.faults sink.old) (K.faults sink.new) }
 {
-    write_short_line(words, &[Field::Text(judgement_name(judgement))], sink)
+    write_short_line(words, &[TextField::Text(judgement_name(judgement))], sink)
 }
 
 /// Writes the line of a part of which two numbers are told.
@@ -82,23 +82,23 @@ fn write_counts<K: Sink>(
     write_short_line(
         words,
         &[
-            Field::Text(judgement_name(judgement)),
-            Field::Text(first.name),
-            Field::Number(first.number as u64),
-            Field::Text(second.name),
-            Field::Number(second.number as u64),
+            TextField::Text(judgement_name(judgement)),
+            TextField::Text(first.name),
+            TextField::Number(first.number as u64),
+            TextField::Text(second.name),
+            TextField::Number(second.number as u64),
         ],
         sink,
     )
 }
 
 /// The name of the service, where it is of one.
-fn service_if_any(by: Option<Service>) -> Field
+fn service_if_any(by: Option<Service>) -> TextField
     ensures texts { texts_of result ≡ service_texts by }
     ensures short { most_bytes result ≤ 22 }
 {
     match by {
-        Some(by) => Field::Text(service_name(by)),
+        Some(by) => TextField::Text(service_name(by)),
         None => NOTHING,
     }
 }
@@ -120,15 +120,15 @@ fn write_fates<K: Sink>(
         words,
         &[
             service_if_any(by),
-            Field::Text(judgement_name(judgement)),
-            Field::Text("all"),
-            Field::Number(counts.all as u64),
-            Field::Text("none"),
-            Field::Number(counts.nobody as u64),
-            Field::Text("apart"),
-            Field::Number(counts.apart as u64),
-            Field::Text("open"),
-            Field::Number(counts.unsettled as u64),
+            TextField::Text(judgement_name(judgement)),
+            TextField::Text("all"),
+            TextField::Number(counts.all as u64),
+            TextField::Text("none"),
+            TextField::Number(counts.nobody as u64),
+            TextField::Text("apart"),
+            TextField::Number(counts.apart as u64),
+            TextField::Text("open"),
+            TextField::Number(counts.unsettled as u64),
         ],
         sink,
     )

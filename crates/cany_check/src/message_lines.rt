@@ -17,7 +17,7 @@ use crate::findings::{Fate, Told};
 use crate::record::MessageRecord;
 use cany_base::{Params, Service, Slot};
 use cany_io::{Failed, Sink};
-use cany_log::{Field, write_line};
+use cany_log::{TextField, write_line};
 use cany_text::names::service_name;
 
 /// How long the protocol of the service waits: the slots between a copy of a message and the last
@@ -67,11 +67,11 @@ fn open_fields(params: &Params, message: &MessageRecord) -> FateFields
     ensures short { fate_room result ≤ most_fate_bytes }
 {
     FateFields {
-        first: Field::Text("open"),
+        first: TextField::Text("open"),
         second: text_if(message.queued, "queued"),
-        third: Field::SetIfAny("waits", message.waits),
-        fourth: Field::SetIfAny("ahead", message.ahead),
-        fifth: Field::NumberIfAny("by", due_if_ahead(params, message)),
+        third: TextField::SetIfAny("waits", message.waits),
+        fourth: TextField::SetIfAny("ahead", message.ahead),
+        fifth: TextField::NumberIfAny("by", due_if_ahead(params, message)),
     }
 }
 
@@ -106,20 +106,20 @@ fn write_message<K: Sink>(
     write_line(
         "message",
         &[
-            Field::Text(service_name(message.service)),
-            Field::Number(u64::from(message.key.origin.get())),
-            Field::Number(u64::from(message.key.seq)),
-            Field::Text("slot"),
-            Field::Number(message.slot),
+            TextField::Text(service_name(message.service)),
+            TextField::Number(u64::from(message.key.origin.get())),
+            TextField::Number(u64::from(message.key.seq)),
+            TextField::Text("slot"),
+            TextField::Number(message.slot),
             fate.first,
             fate.second,
             fate.third,
             fate.fourth,
             fate.fifth,
-            Field::Text("carried"),
+            TextField::Text("carried"),
             first_or_dash(message.carried),
             last_if_any(message.carried),
-            Field::NumberIfAny("delivered", first_of(told.slots)),
+            TextField::NumberIfAny("delivered", first_of(told.slots)),
             last_if_any(told.slots),
         ],
         sink,

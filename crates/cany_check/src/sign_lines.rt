@@ -14,7 +14,7 @@ use crate::fate_fields::{
 use crate::findings::{Fate, Told};
 use crate::record::SignRecord;
 use cany_io::{Failed, Sink};
-use cany_log::{Field, write_line};
+use cany_log::{TextField, write_line};
 
 /// What became of a sign.
 fn fate_fields(sign: &SignRecord, told: &Told) -> FateFields
@@ -38,17 +38,17 @@ fn write_sign<K: Sink>(sign: &SignRecord, told: &Told, sink: &mut K) -> Result<(
     write_line(
         "sign",
         &[
-            Field::Number(u64::from(sign.node.get())),
-            Field::Number(u64::from(sign.cycle)),
+            TextField::Number(u64::from(sign.node.get())),
+            TextField::Number(u64::from(sign.cycle)),
             fate.first,
             fate.second,
             fate.third,
             fate.fourth,
             fate.fifth,
-            Field::Text("carried"),
+            TextField::Text("carried"),
             first_or_dash(sign.carried),
             last_if_any(sign.carried),
-            Field::NumberIfAny("known", first_of(told.slots)),
+            TextField::NumberIfAny("known", first_of(told.slots)),
             last_if_any(told.slots),
         ],
         sink,

@@ -8,7 +8,7 @@ use crate::lines::Line;
 use crate::unused_entry::{NoAsk, NoFault, Unused, UnusedEntry};
 use cany_base::Slot;
 use cany_io::{Failed, Sink};
-use cany_log::{Field, write_short_line};
+use cany_log::{TextField, write_short_line};
 
 /// Writes the line of a send, a join or a leave, by the words that it begins with.
 fn write_ask<K: Sink>(
@@ -21,15 +21,19 @@ fn write_ask<K: Sink>(
     ensures { IsWritten (line_of (words.now ∷ decimal place ∷ ask_fields why)) result
         (K.taken sink.old) (K.taken sink.new) (K.faults sink.old) (K.faults sink.new) }
 {
-    let place = Field::Number(place);
+    let place = TextField::Number(place);
     match why {
         NoAsk::From(slot) => write_short_line(
             words,
-            &[place, Field::Text("from"), Field::Number(slot)],
+            &[place, TextField::Text("from"), TextField::Number(slot)],
             sink,
         ),
-        NoAsk::Stopped => write_short_line(words, &[place, Field::Text("stopped")], sink),
-        NoAsk::NeverCarried => write_short_line(words, &[place, Field::Text("carried -")], sink),
+        NoAsk::Stopped => write_short_line(words, &[place, TextField::Text("stopped")], sink),
+        NoAsk::NeverCarried => write_short_line(
+            words,
+            &[place, TextField::Text("carried -")],
+            sink,
+        ),
     }
 }
 
@@ -47,10 +51,10 @@ fn write_fault_in<K: Sink>(
     write_short_line(
         "unused fault",
         &[
-            Field::Number(place),
-            Field::Text("slot"),
-            Field::Number(slot),
-            Field::Text(why),
+            TextField::Number(place),
+            TextField::Text("slot"),
+            TextField::Number(slot),
+            TextField::Text(why),
         ],
         sink,
     )
@@ -65,9 +69,9 @@ fn write_fault<K: Sink>(place: u64, why: NoFault, sink: &mut K) -> Result<(), Fa
         NoFault::Attempts(attempts) => write_short_line(
             "unused fault",
             &[
-                Field::Number(place),
-                Field::Text("attempts"),
-                Field::Number(attempts),
+                TextField::Number(place),
+                TextField::Text("attempts"),
+                TextField::Number(attempts),
             ],
             sink,
         ),
@@ -93,7 +97,7 @@ impl Line for Unused {
             UnusedEntry::Leave(why) => write_ask("unused leave", place, why, sink),
             UnusedEntry::Restart => write_short_line(
                 "unused restart",
-                &[Field::Number(place), Field::Text("runs")],
+                &[TextField::Number(place), TextField::Text("runs")],
                 sink,
             ),
         }

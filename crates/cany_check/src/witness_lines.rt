@@ -2,7 +2,7 @@
 use crate::findings::{Accusation, EntryAt, Parting, ViewParting};
 use crate::lines::Line;
 use cany_io::{Failed, Sink};
-use cany_log::{Field, write_line};
+use cany_log::{TextField, write_line};
 
 impl Line for EntryAt {
     ghost use Rattle.cany_check.specs.CheckLines.{entry_line};
@@ -14,9 +14,9 @@ impl Line for EntryAt {
         write_line(
             "entry node",
             &[
-                Field::Number(u64::from(self.node.get())),
-                Field::Text("place"),
-                Field::Number(self.place as u64),
+                TextField::Number(u64::from(self.node.get())),
+                TextField::Text("place"),
+                TextField::Number(self.place as u64),
             ],
             sink,
         )
@@ -33,21 +33,21 @@ impl Line for Parting {
         write_line(
             "parted node",
             &[
-                Field::Number(u64::from(self.first.get())),
-                Field::Text("node"),
-                Field::Number(u64::from(self.second.get())),
-                Field::Text("place"),
-                Field::Number(self.place as u64),
-                Field::Text("tot"),
-                Field::Number(u64::from(self.here.msg.origin.get())),
-                Field::Number(u64::from(self.here.msg.seq)),
-                Field::Text("slot"),
-                Field::Number(self.here.slot),
-                Field::Text("tot"),
-                Field::Number(u64::from(self.there.msg.origin.get())),
-                Field::Number(u64::from(self.there.msg.seq)),
-                Field::Text("slot"),
-                Field::Number(self.there.slot),
+                TextField::Number(u64::from(self.first.get())),
+                TextField::Text("node"),
+                TextField::Number(u64::from(self.second.get())),
+                TextField::Text("place"),
+                TextField::Number(self.place as u64),
+                TextField::Text("tot"),
+                TextField::Number(u64::from(self.here.msg.origin.get())),
+                TextField::Number(u64::from(self.here.msg.seq)),
+                TextField::Text("slot"),
+                TextField::Number(self.here.slot),
+                TextField::Text("tot"),
+                TextField::Number(u64::from(self.there.msg.origin.get())),
+                TextField::Number(u64::from(self.there.msg.seq)),
+                TextField::Text("slot"),
+                TextField::Number(self.there.slot),
             ],
             sink,
         )
@@ -64,13 +64,13 @@ impl Line for ViewParting {
         write_line(
             "view",
             &[
-                Field::Number(u64::from(self.number)),
-                Field::Text("node"),
-                Field::Number(u64::from(self.first.get())),
-                Field::Set(self.members),
-                Field::Text("node"),
-                Field::Number(u64::from(self.second.get())),
-                Field::Set(self.others),
+                TextField::Number(u64::from(self.number)),
+                TextField::Text("node"),
+                TextField::Number(u64::from(self.first.get())),
+                TextField::Set(self.members),
+                TextField::Text("node"),
+                TextField::Number(u64::from(self.second.get())),
+                TextField::Set(self.others),
             ],
             sink,
         )
@@ -87,11 +87,11 @@ impl Line for Accusation {
         write_line(
             "accused",
             &[
-                Field::Number(u64::from(self.node.get())),
-                Field::Text("by"),
-                Field::Set(self.by),
-                Field::Text("first"),
-                Field::Number(self.first),
+                TextField::Number(u64::from(self.node.get())),
+                TextField::Text("by"),
+                TextField::Set(self.by),
+                TextField::Text("first"),
+                TextField::Number(self.first),
             ],
             sink,
         )

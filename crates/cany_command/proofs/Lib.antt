@@ -1,3 +1,5 @@
+pub mod Causes
+pub mod DueFacts
 pub mod NumberFacts
 pub mod PerformedFacts
 pub mod PerformingFacts

@@ -9,7 +9,8 @@ use Rattle.cany_text.specs.declared.scenario_fault.ScenarioFault.{ScenarioFault}
 use Rattle.cany_text.specs.RefusalLines.{journal_refusal_line, scenario_refusal_line}
 use Rattle.cany_text.specs.ScenarioText.{scenario_of}
 use Rattle.cany_text.specs.TomlKeys.{Read}
-use Rattle.cany_command.specs.Answers.{IsAnswered, OfChosen, RunText, answer_by, answer_for, answer_if, answer_to}
+use Rattle.cany_command.specs.Answers.{IsAnswered, OfChosen, answer_by, answer_for, answer_if, answer_to}
+use Rattle.cany_command.specs.Due.{RunText}
 use Rattle.cany_command.specs.Promises.{KeepsPromises}
 use Rattle.cany_command.specs.Refused.{Chosen, own_fault}
 use Rattle.cany_world.specs.World.{WorldParts}

@@ -1,8 +1,8 @@
 -- What a command writes for a text, by what it writes of a run.
 use Rattle.std.specs.Prelude.{ℕ, List, Option, Ok, Err, IsOkAnd}
 use Rattle.std.specs.Option.{option_map_or}
-use Rattle.cany_base.specs.declared.step.Step.{Step}
 use Rattle.cany_base.specs.Scenario.{ScenarioParts}
+use Rattle.cany_command.specs.Due.{RunText}
 use Rattle.cany_command.specs.Promises.{KeepsPromises}
 use Rattle.cany_command.specs.Refused.{Chosen, own_fault}
 use Rattle.cany_io.specs.Sink.{Takes}
@@ -10,10 +10,6 @@ use Rattle.cany_model.specs.Runs.Follow.{journal_of}
 use Rattle.cany_text.specs.RefusalLines.{journal_refusal_line, scenario_refusal_line}
 use Rattle.cany_text.specs.ScenarioText.{scenario_of}
 use Rattle.cany_text.specs.TomlKeys.{Read}
-
--- what a command writes of the run of a scenario by a journal
-abbrev pub RunText : Type 0
-RunText = ScenarioParts → List Step → List ℕ
 
 -- what it writes for a scenario: of the run by the scenario's own journal or, where it has none, by
 -- its round robin journal; or the line that refuses the journal

@@ -1,4 +1,5 @@
 pub mod Answers
+pub mod Due
 pub mod Faults
 pub mod NoFault
 pub mod Numbers

@@ -1,6 +1,6 @@
 //! The commands of one word.
 ghost use Rattle.std.specs.Prelude.{◌≡◌, ℕ, List};
-ghost use Rattle.cany_command.specs.Answers.{RunText};
+ghost use Rattle.cany_command.specs.Due.{RunText};
 ghost use Rattle.cany_log.specs.Written.{IsWritten};
 
 use crate::command::Command;

@@ -80,10 +80,9 @@ fn perform_text<C: Command, K: Sink>(
 /// chooses, and writes the command's text of the run to the sink. The run is by the own journal of
 /// the chosen scenario or, where it has none, by its round robin journal.
 ///
-/// It answers the status of the program, one of those in `status` or a status of success of the
-/// command. Each answer has its cause: `IsPerformed` says which, field by field. Causes are looked
-/// at in this order: the words, the command's refusal of them, the reading, the text, the command's
-/// refusal of the scenario, the journal, the writing.
+/// What is due for the words and the bytes is done, a stream fails, or there is no memory:
+/// `IsPerformed` says this. Causes are looked at in this order: the words, the command's refusal of
+/// them, the reading, the text, the command's refusal of the scenario, the journal, the writing.
 ///
 /// Promise: at success exactly the command's text of the run of the scenario that it chooses was
 /// written. The journal is legal and whole, the run has integrity, and within the hypothesis it is

@@ -29,6 +29,7 @@ pub fn text_from<S: Source>(alloc: Global, source: &mut S) -> Result<Vec<u8>, u8
     // These bytes were all that was left, and nothing is left.
     ensures whole { IfOk result (λ text. IfSome (S.left source.old) (λ bytes. text.items ≡ bytes)) }
     ensures end { OnOk result (IsAtEnd (S.left source.new)) }
+    ensures within { IfOk result (λ text. length text.items ≤ most_text_bytes) }
 
     // Where the bytes left are told, their number alone decides, but for a fault of the source and
     // for want of memory.

@@ -1,5 +1,8 @@
 //! The statuses that the program ends with. Each has one name, in code, in contracts and in the
-//! help text.
+//! help text, and a number in `specs/Status.antt`.
+
+ghost use Rattle.std.specs.Prelude.{◌≡◌};
+ghost use Rattle.cany_command.specs.Status as status;
 
 /// Success: the whole answer was written.
 pub const DONE: u8 = 0;
@@ -23,3 +26,14 @@ pub const NO_MEMORY: u8 = 6;
 
 /// The source has more bytes than a text can have. Nothing was written.
 pub const TOO_LONG: u8 = 7;
+
+/// The statuses of code are those of the definitions.
+pub fn are_those_of_the_definitions()
+    ensures done { DONE ≡ status.done }
+    ensures other_words { OTHER_WORDS ≡ status.other_words }
+    ensures refused { REFUSED ≡ status.refused }
+    ensures read_fault { READ_FAULT ≡ status.read_fault }
+    ensures write_fault { WRITE_FAULT ≡ status.write_fault }
+    ensures no_memory { NO_MEMORY ≡ status.no_memory }
+    ensures too_long { TOO_LONG ≡ status.too_long }
+{}

@@ -2,8 +2,8 @@
 use Rattle.std.specs.Prelude.{ℕ, ◌+◌, List, [], ◌∷◌, Option, Some, None, if◌then◌else◌, length, codes, decimal}
 use Rattle.std.specs.List.{flat_map}
 use Rattle.cany_base.specs.Nodes.{Nodes, is_nobody}
-use Rattle.cany_log.specs.declared.field.Field.{Field}
-use Rattle.cany_log.specs.declared.field.Field.TheVariants.{Text, Number, Count, SignedNumber, Node, Byte, Bytes, Set, NumberIfAny, SetIfAny}
+use Rattle.cany_log.specs.declared.text_field.TextField.{TextField}
+use Rattle.cany_log.specs.declared.text_field.TextField.TheVariants.{Text, Number, Count, SignedNumber, Node, Byte, Bytes, Set, NumberIfAny, SetIfAny}
 use Rattle.cany_text.specs.RefusalLines.{signed_decimal}
 use Rattle.cany_text.specs.ReportLines.{byte_text, node_text, payload_text, set_text}
 
@@ -17,7 +17,7 @@ abbrev pub set_if_any : List ℕ → Nodes → List (List ℕ)
 set_if_any word nodes = if is_nobody nodes then [] else word ∷ set_text nodes ∷ []
 
 -- the fields that a piece is: one, or two or none
-abbrev pub texts_of : Field → List (List ℕ)
+abbrev pub texts_of : TextField → List (List ℕ)
 texts_of (Text text) = text.now ∷ []
 texts_of (Number n) = decimal n ∷ []
 texts_of (Count n) = decimal n ∷ []
@@ -65,7 +65,7 @@ abbrev pub most_set_bytes : ℕ
 most_set_bytes = 181
 
 -- and a piece, with the spaces before its fields
-abbrev pub most_bytes : Field → ℕ
+abbrev pub most_bytes : TextField → ℕ
 most_bytes (Text text) = 1 + length text.now
 most_bytes (Number n) = 1 + most_number_bytes
 most_bytes (Count n) = 1 + most_count_bytes
@@ -78,6 +78,6 @@ most_bytes (NumberIfAny word n) = (1 + length word.now) + (1 + most_number_bytes
 most_bytes (SetIfAny word nodes) = (1 + length word.now) + (1 + most_set_bytes)
 
 -- and pieces together
-abbrev pub room_of : List Field → ℕ
+abbrev pub room_of : List TextField → ℕ
 room_of [] = 0
 room_of (field ∷ fields) = most_bytes field + room_of fields

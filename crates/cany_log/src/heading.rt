@@ -7,9 +7,9 @@ ghost use Rattle.cany_text.specs.ReportLines as report;
 ghost use Rattle.cany_log.specs.Written.{IsWritten};
 ghost use Rattle.cany_world.specs.Journal.{Repeats};
 
-use crate::field::Field;
 use crate::line::{JOURNAL_LINE_BYTES, put_steps, write_line};
 use crate::page::{PAGE_BYTES, Page, SHORT_LINES, write_page, write_page_times};
+use crate::text_field::TextField;
 use cany_base::{Format, Params, Step};
 use cany_io::{Failed, Sink};
 
@@ -27,7 +27,7 @@ pub(crate) fn write_first_line<K: Sink>(format: Format, sink: &mut K) -> Result<
 {
     write_line(
         "canely report",
-        &[Field::Number(u64::from(format.number()))],
+        &[TextField::Number(u64::from(format.number()))],
         sink,
     )
 }
@@ -41,25 +41,25 @@ pub(crate) fn write_params<K: Sink>(params: &Params, sink: &mut K) -> Result<(),
     write_line(
         "params nodes",
         &[
-            Field::Number(u64::from(params.nodes)),
-            Field::Text("lag"),
-            Field::Number(u64::from(params.lag)),
-            Field::Text("omit"),
-            Field::Number(u64::from(params.omit)),
-            Field::Text("errors"),
-            Field::Number(u64::from(params.errors)),
-            Field::Text("bound"),
-            Field::Number(params.bound),
-            Field::Text("cycle"),
-            Field::Number(params.cycle),
-            Field::Text("life"),
-            Field::Number(params.life),
-            Field::Text("silence"),
-            Field::Number(params.silence),
-            Field::Text("confirm"),
-            Field::Number(params.confirm),
-            Field::Text("slots"),
-            Field::Number(params.slots),
+            TextField::Number(u64::from(params.nodes)),
+            TextField::Text("lag"),
+            TextField::Number(u64::from(params.lag)),
+            TextField::Text("omit"),
+            TextField::Number(u64::from(params.omit)),
+            TextField::Text("errors"),
+            TextField::Number(u64::from(params.errors)),
+            TextField::Text("bound"),
+            TextField::Number(params.bound),
+            TextField::Text("cycle"),
+            TextField::Number(params.cycle),
+            TextField::Text("life"),
+            TextField::Number(params.life),
+            TextField::Text("silence"),
+            TextField::Number(params.silence),
+            TextField::Text("confirm"),
+            TextField::Number(params.confirm),
+            TextField::Text("slots"),
+            TextField::Number(params.slots),
         ],
         sink,
     )

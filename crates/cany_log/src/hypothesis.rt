@@ -1,8 +1,8 @@
 ghost use Rattle.cany_text.specs.ReportLines as report;
 ghost use Rattle.cany_log.specs.Written.{IsWritten};
 
-use crate::field::Field;
 use crate::line::write_line;
+use crate::text_field::TextField;
 use cany_io::{Failed, Sink};
 use cany_model::Break;
 use cany_text::names::break_name;
@@ -28,8 +28,8 @@ pub fn write_hypothesis<K: Sink>(found: Option<Break>, sink: &mut K) -> Result<(
         Some(found) => write_line(
             "hypothesis outside",
             &[
-                Field::Text(break_name(found.kind)),
-                Field::Number(found.slot),
+                TextField::Text(break_name(found.kind)),
+                TextField::Number(found.slot),
             ],
             sink,
         ),

@@ -5,8 +5,8 @@ ghost use Rattle.cany_text.specs.RefusalLines.{journal_refusal_line};
 ghost use Rattle.cany_text.specs.ReportLines.{line_of};
 ghost use Rattle.cany_log.specs.Written.{IsWritten};
 
-use crate::field::Field;
 use crate::line::write_line;
+use crate::text_field::TextField;
 use cany_base::NodeId;
 use cany_io::{Failed, Sink};
 use cany_model::{FollowFault, StepReply};
@@ -32,7 +32,7 @@ fn write_refused_step<K: Sink>(place: u64, reply: &StepReply, sink: &mut K) -> R
 {
     match *reply {
         // No step that is done is refused.
-        StepReply::Done => write_line(STEP, &[Field::Number(place)], sink),
+        StepReply::Done => write_line(STEP, &[TextField::Number(place)], sink),
         StepReply::Lagging { node, unread } => write_lagging(place, node, unread, sink),
         StepReply::Over { slots } => write_cause(place, "over slots", slots, sink),
         StepReply::NothingYet { now } => write_cause(place, "nothing yet now", now, sink),
@@ -47,11 +47,11 @@ fn write_lagging<K: Sink>(place: u64, node: NodeId, unread: u32, sink: &mut K) -
         (K.taken sink.old) (K.taken sink.new) (K.faults sink.old) (K.faults sink.new) }
 {
     let fields = [
-        Field::Number(place),
-        Field::Text("lagging node"),
-        Field::Number(u64::from(node.get())),
-        Field::Text("unread"),
-        Field::Number(u64::from(unread)),
+        TextField::Number(place),
+        TextField::Text("lagging node"),
+        TextField::Number(u64::from(node.get())),
+        TextField::Text("unread"),
+        TextField::Number(u64::from(unread)),
     ];
     write_line(STEP, &fields, sink)
 }
@@ -69,9 +69,9 @@ fn write_cause<K: Sink>(
         (K.taken sink.old) (K.taken sink.new) (K.faults sink.old) (K.faults sink.new) }
 {
     let fields = [
-        Field::Number(place),
-        Field::Text(words),
-        Field::Number(number),
+        TextField::Number(place),
+        TextField::Text(words),
+        TextField::Number(number),
     ];
     write_line(STEP, &fields, sink)
 }
@@ -92,8 +92,8 @@ fn write_unfinished<K: Sink>(ran: u64, node: Option<NodeId>, sink: &mut K) -> Re
         (K.taken sink.old) (K.taken sink.new) (K.faults sink.old) (K.faults sink.new) }
 {
     let fields = [
-        Field::Number(ran),
-        Field::NumberIfAny("node", number_of(node)),
+        TextField::Number(ran),
+        TextField::NumberIfAny("node", number_of(node)),
     ];
     write_line("refused journal unfinished ran", &fields, sink)
 }

@@ -5,8 +5,8 @@ ghost use Rattle.cany_text.specs.ReportLines as report;
 ghost use Rattle.cany_log.specs.Fields.{most_bytes, most_number_bytes, most_set_bytes, number_if_any, room_of, set_if_any, spaced, texts_of};
 ghost use Rattle.cany_log.specs.Written.{IsWritten};
 
-use crate::field::Field;
 use crate::line_buffer::LineBuffer;
+use crate::text_field::TextField;
 use cany_base::limits::MOST_LINE_BYTES;
 use cany_base::{NodeSet, Step};
 use cany_io::{Failed, Sink, write_whole};
@@ -48,22 +48,22 @@ pub(crate) fn put_set_if_any<const ROOM: usize>(
 }
 
 /// Puts a piece before the others, each of its fields with the space before it.
-fn put_field<const ROOM: usize>(line_buffer: &mut LineBuffer<ROOM>, field: &Field)
+fn put_field<const ROOM: usize>(line_buffer: &mut LineBuffer<ROOM>, field: &TextField)
     requires { length line_buffer.old + most_bytes field.now ≤ ROOM }
     ensures text { line_buffer.new ≡ spaced (texts_of field.now) ++ line_buffer.old }
     ensures short { length (spaced (texts_of field.now)) ≤ most_bytes field.now }
 {
     match *field {
-        Field::Text(text) => line_buffer.put_text(text),
-        Field::Number(number) => line_buffer.put_number(number),
-        Field::Count(number) => line_buffer.put_count(number),
-        Field::SignedNumber(number) => line_buffer.put_signed(number),
-        Field::Node(node, inc) => line_buffer.put_node(node, inc),
-        Field::Byte(byte) => line_buffer.put_octet(byte),
-        Field::Bytes(payload) => line_buffer.put_payload(&payload),
-        Field::Set(set) => line_buffer.put_set(set),
-        Field::NumberIfAny(word, number) => put_number_if_any(line_buffer, word, number),
-        Field::SetIfAny(word, set) => put_set_if_any(line_buffer, word, set),
+        TextField::Text(text) => line_buffer.put_text(text),
+        TextField::Number(number) => line_buffer.put_number(number),
+        TextField::Count(number) => line_buffer.put_count(number),
+        TextField::SignedNumber(number) => line_buffer.put_signed(number),
+        TextField::Node(node, inc) => line_buffer.put_node(node, inc),
+        TextField::Byte(byte) => line_buffer.put_octet(byte),
+        TextField::Bytes(payload) => line_buffer.put_payload(&payload),
+        TextField::Set(set) => line_buffer.put_set(set),
+        TextField::NumberIfAny(word, number) => put_number_if_any(line_buffer, word, number),
+        TextField::SetIfAny(word, set) => put_set_if_any(line_buffer, word, set),
     }
 }
 
@@ -71,7 +71,7 @@ fn put_field<const ROOM: usize>(line_buffer: &mut LineBuffer<ROOM>, field: &Fiel
 /// the sink is given any of it, and takes no memory.
 fn write_row<const ROOM: usize, K: Sink>(
     words: &'static str,
-    fields: &[Field],
+    fields: &[TextField],
     sink: &mut K,
 ) -> Result<(), Failed>
     requires short { ROOM ≤ most_line_bytes }
@@ -104,7 +104,7 @@ fn write_row<const ROOM: usize, K: Sink>(
 /// `Failed` only where the sink's count of faults rose.
 pub fn write_line<K: Sink>(
     words: &'static str,
-    fields: &[Field],
+    fields: &[TextField],
     sink: &mut K,
 ) -> Result<(), Failed>
     requires room { length words.now + room_of fields.now + 1 ≤ most_line_bytes }
@@ -129,7 +129,7 @@ pub fn write_line<K: Sink>(
 /// `Failed` only where the sink's count of faults rose.
 pub fn write_short_line<K: Sink>(
     words: &'static str,
-    fields: &[Field],
+    fields: &[TextField],
     sink: &mut K,
 ) -> Result<(), Failed>
     requires room { length words.now + room_of fields.now + 1 ≤ SHORT_LINE_BYTES }

@@ -9,9 +9,9 @@ ghost use Rattle.cany_log.specs.Written.{IsWritten};
 ghost use Rattle.cany_world.specs.World.{state_of};
 
 use crate::entries::write_entries;
-use crate::field::Field;
 use crate::line::write_line;
 use crate::page::Page;
+use crate::text_field::TextField;
 use cany_base::{NodeId, Slot};
 use cany_io::{Failed, Sink};
 use cany_model::Span;
@@ -25,13 +25,13 @@ fn if_later(inc: u8, number: u64) -> Option<u64>
 }
 
 /// Whether an incarnation stopped, and in which slot.
-fn stop_field(stopped: Option<Slot>) -> Field
+fn stop_field(stopped: Option<Slot>) -> TextField
     ensures texts { texts_of result ≡ stop_texts stopped }
     ensures short { most_bytes result ≤ 30 }
 {
     match stopped {
-        None => Field::Text("correct"),
-        Some(slot) => Field::NumberIfAny("stopped", Some(slot)),
+        None => TextField::Text("correct"),
+        Some(slot) => TextField::NumberIfAny("stopped", Some(slot)),
     }
 }
 
@@ -46,11 +46,11 @@ pub(crate) fn write_node_line<K: Sink>(
     ensures { IsWritten (node_line node inc span.now) result
         (K.taken sink.old) (K.taken sink.new) (K.faults sink.old) (K.faults sink.new) }
 {
-    let number = Field::Number(u64::from(node.get()));
-    let incarnation = Field::NumberIfAny("inc", if_later(inc, u64::from(inc)));
-    let since = Field::NumberIfAny("since", if_later(inc, span.since));
-    let word = Field::Text("read");
-    let read = Field::Number(span.read);
+    let number = TextField::Number(u64::from(node.get()));
+    let incarnation = TextField::NumberIfAny("inc", if_later(inc, u64::from(inc)));
+    let since = TextField::NumberIfAny("since", if_later(inc, span.since));
+    let word = TextField::Text("read");
+    let read = TextField::Number(span.read);
     let stopped = stop_field(span.stopped);
     write_line(
         "node",

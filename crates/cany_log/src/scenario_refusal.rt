@@ -6,8 +6,8 @@ ghost use Rattle.cany_text.specs.ReportLines.{line_of};
 ghost use Rattle.cany_text.specs.TextNames as names;
 ghost use Rattle.cany_log.specs.Written.{IsWritten};
 
-use crate::field::Field;
 use crate::line::write_line;
+use crate::text_field::TextField;
 use cany_base::ParamName;
 use cany_io::{Failed, Sink};
 use cany_text::names::{key_name, param_name, table_name};
@@ -69,7 +69,11 @@ fn write_too_many<K: Sink>(table: TableName, sink: &mut K) -> Result<(), Failed>
     ensures { IsWritten (line_of (codes "refused too many" ∷ names.table_name table ∷ [])) result
         (K.taken sink.old) (K.taken sink.new) (K.faults sink.old) (K.faults sink.new) }
 {
-    write_line("refused too many", &[Field::Text(table_name(table))], sink)
+    write_line(
+        "refused too many",
+        &[TextField::Text(table_name(table))],
+        sink,
+    )
 }
 
 fn write_too_small<K: Sink>(which: ParamName, needed: u64, sink: &mut K) -> Result<(), Failed>
@@ -77,9 +81,9 @@ fn write_too_small<K: Sink>(which: ParamName, needed: u64, sink: &mut K) -> Resu
         (K.taken sink.old) (K.taken sink.new) (K.faults sink.old) (K.faults sink.new) }
 {
     let fields = [
-        Field::Text(param_name(which)),
-        Field::Text("needs"),
-        Field::Number(needed),
+        TextField::Text(param_name(which)),
+        TextField::Text("needs"),
+        TextField::Number(needed),
     ];
     write_line("refused bound too small", &fields, sink)
 }
@@ -90,7 +94,7 @@ fn write_at<K: Sink>(words: &'static str, place: usize, sink: &mut K) -> Result<
     ensures { IsWritten (line_of (words.now ∷ decimal place ∷ [])) result
         (K.taken sink.old) (K.taken sink.new) (K.faults sink.old) (K.faults sink.new) }
 {
-    write_line(words, &[Field::Number(place as u64)], sink)
+    write_line(words, &[TextField::Number(place as u64)], sink)
 }
 
 fn write_unknown_key<K: Sink>(table: TableName, place: usize, sink: &mut K) -> Result<(), Failed>
@@ -98,9 +102,9 @@ fn write_unknown_key<K: Sink>(table: TableName, place: usize, sink: &mut K) -> R
         (K.taken sink.old) (K.taken sink.new) (K.faults sink.old) (K.faults sink.new) }
 {
     let fields = [
-        Field::Text("in"),
-        Field::Text(table_name(table)),
-        Field::Number(place as u64),
+        TextField::Text("in"),
+        TextField::Text(table_name(table)),
+        TextField::Number(place as u64),
     ];
     write_line("refused unknown key", &fields, sink)
 }
@@ -118,10 +122,10 @@ fn write_of_key<K: Sink>(
         (K.taken sink.old) (K.taken sink.new) (K.faults sink.old) (K.faults sink.new) }
 {
     let fields = [
-        Field::Text(key_name(name)),
-        Field::Text("in"),
-        Field::Text(table_name(table)),
-        Field::Number(place as u64),
+        TextField::Text(key_name(name)),
+        TextField::Text("in"),
+        TextField::Text(table_name(table)),
+        TextField::Number(place as u64),
     ];
     write_line(words, &fields, sink)
 }
@@ -140,12 +144,12 @@ fn write_out_of_range<K: Sink>(
     write_line(
         "refused out of range",
         &[
-            Field::Text(key_name(name)),
-            Field::Text("in"),
-            Field::Text(table_name(table)),
-            Field::Number(place as u64),
-            Field::Text("value"),
-            Field::SignedNumber(value),
+            TextField::Text(key_name(name)),
+            TextField::Text("in"),
+            TextField::Text(table_name(table)),
+            TextField::Number(place as u64),
+            TextField::Text("value"),
+            TextField::SignedNumber(value),
         ],
         sink,
     )

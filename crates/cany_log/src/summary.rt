@@ -9,9 +9,9 @@ ghost use Rattle.cany_log.specs.Written.{IsWritten};
 ghost use Rattle.cany_world.specs.World.{state_of};
 
 use crate::entry_counts::EntryCounts;
-use crate::field::Field;
 use crate::hypothesis::write_hypothesis;
 use crate::line::write_line;
+use crate::text_field::TextField;
 use cany_base::{SlotNote, Verdict};
 use cany_io::{Failed, Sink};
 use cany_world::World;
@@ -73,13 +73,13 @@ fn write_frames<K: Sink>(trace: &[SlotNote], sink: &mut K) -> Result<(), Failed>
     write_line(
         "frames",
         &[
-            Field::Number(frames_in(trace) as u64),
-            Field::Text("lost"),
-            Field::Number(lost_in(trace) as u64),
-            Field::Text("partial"),
-            Field::Number(partial_in(trace) as u64),
-            Field::Text("silent"),
-            Field::Number(silent_in(trace) as u64),
+            TextField::Number(frames_in(trace) as u64),
+            TextField::Text("lost"),
+            TextField::Number(lost_in(trace) as u64),
+            TextField::Text("partial"),
+            TextField::Number(partial_in(trace) as u64),
+            TextField::Text("silent"),
+            TextField::Number(silent_in(trace) as u64),
         ],
         sink,
     )
@@ -94,11 +94,11 @@ fn write_entry_counts<K: Sink>(world: &World, sink: &mut K) -> Result<(), Failed
     write_line(
         "deliveries",
         &[
-            Field::Count(counts.deliveries),
-            Field::Text("failures"),
-            Field::Count(counts.failures),
-            Field::Text("views"),
-            Field::Count(counts.views),
+            TextField::Count(counts.deliveries),
+            TextField::Text("failures"),
+            TextField::Count(counts.failures),
+            TextField::Text("views"),
+            TextField::Count(counts.views),
         ],
         sink,
     )
@@ -141,9 +141,9 @@ pub fn write_settled<K: Sink>(world: &World, sink: &mut K) -> Result<(), Failed>
     write_line(
         "settled",
         &[
-            Field::Number(settled_count(world) as u64),
-            Field::Text("open"),
-            Field::Number(open_count(world) as u64),
+            TextField::Number(settled_count(world) as u64),
+            TextField::Text("open"),
+            TextField::Number(open_count(world) as u64),
         ],
         sink,
     )
@@ -155,7 +155,7 @@ fn write_storm<K: Sink>(number: u32, sink: &mut K) -> Result<(), Failed>
     ensures { IsWritten (summary.storm_line number) result
         (K.taken sink.old) (K.taken sink.new) (K.faults sink.old) (K.faults sink.new) }
 {
-    write_line("storm", &[Field::Number(u64::from(number))], sink)
+    write_line("storm", &[TextField::Number(u64::from(number))], sink)
 }
 
 /// Writes how many slots, log entries and messages there are of each kind.

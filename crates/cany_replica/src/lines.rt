@@ -8,7 +8,7 @@ use crate::answer::Answer;
 use crate::value::Value;
 use cany_base::{NodeId, Payload, Slot};
 use cany_io::{Failed, Sink};
-use cany_log::{Field, write_short_line};
+use cany_log::{TextField, write_short_line};
 
 /// Writes that a text of this command begins.
 #[tactic(auto, unfolding(crate::specs::ReplicaText::first_line, cany_text::specs::ReportLines::line_of))]
@@ -47,14 +47,14 @@ pub(crate) fn write_node_line<K: Sink>(
     ensures { IsWritten (text.node_line node inc stopped count) result
         (K.taken sink.old) (K.taken sink.new) (K.faults sink.old) (K.faults sink.new) }
 {
-    let number = Field::Number(u64::from(node.get()));
-    let inc = Field::NumberIfAny("inc", later_incarnation(inc));
-    let applied = Field::Text("applied");
-    let count = Field::Number(count);
+    let number = TextField::Number(u64::from(node.get()));
+    let inc = TextField::NumberIfAny("inc", later_incarnation(inc));
+    let applied = TextField::Text("applied");
+    let count = TextField::Number(count);
     match stopped {
         None => write_short_line(
             "node",
-            &[number, inc, Field::Text("correct"), applied, count],
+            &[number, inc, TextField::Text("correct"), applied, count],
             sink,
         ),
         Some(slot) => write_short_line(
@@ -62,8 +62,8 @@ pub(crate) fn write_node_line<K: Sink>(
             &[
                 number,
                 inc,
-                Field::Text("stopped"),
-                Field::Number(slot),
+                TextField::Text("stopped"),
+                TextField::Number(slot),
                 applied,
                 count,
             ],
@@ -81,9 +81,9 @@ pub(crate) fn write_reply<K: Sink>(answer: &Answer, sink: &mut K) -> Result<(), 
     write_short_line(
         "reply",
         &[
-            Field::Number(u64::from(answer.msg.origin.get())),
-            Field::Number(u64::from(answer.msg.seq)),
-            Field::Text(answer.reply.name()),
+            TextField::Number(u64::from(answer.msg.origin.get())),
+            TextField::Number(u64::from(answer.msg.seq)),
+            TextField::Text(answer.reply.name()),
         ],
         sink,
     )
@@ -96,5 +96,9 @@ pub(crate) fn write_key<K: Sink>(key: u8, value: &Value, sink: &mut K) -> Result
         (K.taken sink.old) (K.taken sink.new) (K.faults sink.old) (K.faults sink.new) }
 {
     let bytes = Payload::of(value.as_slice()).unwrap();
-    write_short_line("key", &[Field::Byte(key), Field::Bytes(bytes)], sink)
+    write_short_line(
+        "key",
+        &[TextField::Byte(key), TextField::Bytes(bytes)],
+        sink,
+    )
 }

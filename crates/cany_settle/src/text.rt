@@ -9,7 +9,7 @@ ghost use Rattle.cany_world.specs.World.{state_of};
 use crate::events::last_event;
 use crate::length::{needed, tail};
 use cany_io::{Failed, Sink};
-use cany_log::{Field, write_hypothesis, write_settled, write_short_line};
+use cany_log::{TextField, write_hypothesis, write_settled, write_short_line};
 use cany_world::World;
 
 /// Writes a line of a word.
@@ -29,7 +29,7 @@ fn write_number<K: Sink>(word: &'static str, number: u64, sink: &mut K) -> Resul
     ensures { IsWritten (text.number_line word.now number) result
         (K.taken sink.old) (K.taken sink.new) (K.faults sink.old) (K.faults sink.new) }
 {
-    write_short_line(word, &[Field::Number(number)], sink)
+    write_short_line(word, &[TextField::Number(number)], sink)
 }
 
 /// Writes whether the run was long enough, or how long it would have to be.

@@ -6,7 +6,7 @@ ghost use Rattle.cany_watch.specs.WatchText as text;
 
 use cany_base::Action;
 use cany_io::{Failed, Sink};
-use cany_log::{Field, write_entry, write_short_line};
+use cany_log::{TextField, write_entry, write_short_line};
 
 /// Writes which node was watched.
 #[tactic(auto, unfolding(crate::specs::WatchText::node_line, cany_text::specs::ReportLines::line_of))]
@@ -14,7 +14,7 @@ fn write_node_line<K: Sink>(node: u8, sink: &mut K) -> Result<(), Failed>
     ensures { IsWritten (text.node_line node) result
         (K.taken sink.old) (K.taken sink.new) (K.faults sink.old) (K.faults sink.new) }
 {
-    write_short_line("node", &[Field::Number(u64::from(node))], sink)
+    write_short_line("node", &[TextField::Number(u64::from(node))], sink)
 }
 
 /// Writes the entry that was read.
@@ -56,5 +56,9 @@ pub(crate) fn write_no_node<K: Sink>(node: u8, sink: &mut K) -> Result<(), Faile
     ensures { IsWritten (text.no_node_line node) result
         (K.taken sink.old) (K.taken sink.new) (K.faults sink.old) (K.faults sink.new) }
 {
-    write_short_line("refused no node", &[Field::Number(u64::from(node))], sink)
+    write_short_line(
+        "refused no node",
+        &[TextField::Number(u64::from(node))],
+        sink,
+    )
 }

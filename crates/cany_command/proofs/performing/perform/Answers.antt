@@ -43,7 +43,7 @@ returns-in-Ok-perform_text g c =
     let made = c.in-Ok-perform_text.ensures in
     let are : g.C.Command.are_words said = search rules in
     succeeded _ said _ _ g.met.C.Command.no_fault c.in-Ok-perform_text.status c.in-Ok-text_from.text.items are c.in-Ok.ensures.accepted
-    (record { whole = read.whole; end = read.end; fits = read.fits }) made.status (made.done said planned) (made.success said planned) (made.accepted said planned)
+    (record { whole = read.whole; end = read.end; within = read.within }) made.status (made.done said planned) (made.success said planned) (made.accepted said planned)
 
 -- the text is refused, or its answer is not written, or not all of it
 pub returns-in-Err-perform_text : goal.returns-in-Err-perform_text
@@ -54,5 +54,5 @@ returns-in-Err-perform_text g c =
     let made = c.in-Err-perform_text.ensures in
     let are : g.C.Command.are_words said = search rules in
     unsucceeded _ said _ _ g.met.C.Command.no_fault c.in-Err-perform_text.status c.in-Ok-text_from.text.items are c.in-Ok.ensures.accepted
-    (record { whole = read.whole; end = read.end; fits = read.fits }) made.other (λ is. made.refused is said planned) made.write_fault
+    (record { whole = read.whole; end = read.end; within = read.within }) made.other (λ is. made.refused is said planned) made.write_fault
     (λ is. made.prefix is said planned) made.untouched

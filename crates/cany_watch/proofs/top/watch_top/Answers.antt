@@ -44,7 +44,7 @@ returns-in-Ok-watch_text g c =
     let made = c.in-Ok-watch_text.ensures in
     let named : watched_node said ≡ Some c.in-Some.node = search rules in
     succeeded watch_command said _ _ done_is_no_fault DONE text (subst IsSome (sym named) refl) refl
-    (record { whole = read.whole; end = read.end; fits = read.fits }) refl (made.done said named) (one_status (choose said) text _ (made.done said named))
+    (record { whole = read.whole; end = read.end; within = read.within }) refl (made.done said named) (one_status (choose said) text _ (made.done said named))
     (made.accepted said named)
 
 -- the text or the node is refused, or the line is not written, or not all of it
@@ -55,5 +55,5 @@ returns-in-Err-watch_text g c =
     let made = c.in-Err-watch_text.ensures in
     let named : watched_node said ≡ Some c.in-Some.node = search rules in
     unsucceeded watch_command said _ _ done_is_no_fault c.in-Err-watch_text.status c.in-Ok.text.items (subst IsSome (sym named) refl) refl
-    (record { whole = read.whole; end = read.end; fits = read.fits }) made.other (λ is. made.refused is said named) made.write_fault
+    (record { whole = read.whole; end = read.end; within = read.within }) made.other (λ is. made.refused is said named) made.write_fault
     (λ is. made.prefix is said named) made.untouched

@@ -2,11 +2,13 @@
 import functools
 import re
 
+from .words import BREAKS, SERVICES, one_of
+
 NUMBER = r"(?:0|[1-9][0-9]*)"
 SET = rf"(?:-|{NUMBER}(?:,{NUMBER})*)"
-SERVICE = r"(?:ed|rel|tot)"
+SERVICE = one_of(SERVICES)
 # The line on the fault hypothesis, of which reports and the text of check have one.
-HYPOTHESIS = re.compile(rf"hypothesis (?:within|outside (?P<kind>silent|omit|errors) (?P<slot>{NUMBER}))")
+HYPOTHESIS = re.compile(rf"hypothesis (?:within|outside (?P<kind>{one_of(BREAKS)}) (?P<slot>{NUMBER}))")
 
 
 class Malformed(Exception):

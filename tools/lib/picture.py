@@ -1,12 +1,12 @@
 """A run as a page of SVG: slots rightwards, in rows like a score, and the nodes as lanes."""
 from typing import NamedTuple
 
-import marks
-from columns import GONE, Column, did, findings, spans, summary
-from marks import GREEN, GREY, INK, PALE, RED, SHADES
-from overview import Overview
-from report import Delivery, View
-from svg import FONT, element, text, tooltip, width_of, wrapped
+from . import marks
+from .columns import GONE, Column, did, findings, spans, summary
+from .marks import GREEN, GREY, INK, PALE, RED, SHADES
+from .overview import Overview
+from .report import Delivery, View
+from .svg import FONT, element, text, tooltip, width_of, wrapped
 
 MARGIN, STEP, GAP, LABEL = 16, 30, 28, 10.5
 # More nodes than these share a lane where they did the same in all of a row.
@@ -17,8 +17,8 @@ MOST_TALL = 16
 MOST_BROKEN, MOST_OTHERS = 8, 4
 # A run of so many slots has a strip above, which shows it whole.
 LONG_RUN = 500
-# A page is no narrower than this, for the words above and below.
-LEAST_PAGE = 560
+# How wide a page is where nothing else is asked for. None is narrower than the least, for the words above and below.
+PAGE_WIDTH, LEAST_PAGE = 1000, 560
 
 
 def gap_of(column):

@@ -3,7 +3,7 @@ use cany_base::{NodeId, NodeSet, Payload};
 /// A piece of a line: one field of it, or two that stand there together or not at all. Fields stand
 /// a space apart.
 #[derive(Clone, Copy)]
-pub enum Field {
+pub enum TextField {
     /// Fixed words.
     Text(&'static str),
     /// A number, in decimal.

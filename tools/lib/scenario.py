@@ -1,11 +1,11 @@
 """Reads the texts of scenarios as TOML, and writes them. What the program refuses is not looked for here."""
 import sys
 
-import command
+from . import command
+from .words import TABLES
 
 # The keys of a scenario in the order in which a text is written, and the tables after them.
 TOP_KEYS = ("format", "nodes", "slots", "lag", "omit", "errors", "bound", "cycle", "life", "silence", "confirm", "members", "journal")
-TABLES = ("send", "fault", "join", "leave", "restart")
 ENTRY_KEYS = ("slot", "class", "number", "node", "nth", "service", "data", "verdict", "reject", "stop")
 
 

@@ -11,9 +11,10 @@ import time
 from pathlib import Path
 from typing import NamedTuple
 
-import command
-from scenario import TABLES, scenario_text
-from verdict import BROKEN, HELD, OPEN
+from . import command
+from .scenario import scenario_text
+from .verdict import BROKEN, HELD, OPEN
+from .words import TABLES
 
 CASES_IN_FOLDER = 1000
 # The exit statuses that a case has for good. One that ended otherwise, as where memory or the disk was full, is tried again.
@@ -81,9 +82,16 @@ def status_of(path):
 
 
 def done_status(path):
-    """The exit status of a case that is done, or None."""
+    """The exit status of a case that is done, or None. One whose text is gone is not done."""
     found = status_of(path)
-    return found[0] if found and found[0] in DONE else None
+    return found[0] if found and found[0] in DONE and has_text(path) else None
+
+
+def has_text(path):
+    try:
+        return os.path.getsize(f"{path}.check") > 0
+    except FileNotFoundError:
+        return False
 
 
 def wait_for(file):
@@ -218,7 +226,7 @@ def run_cases(words, paths, jobs, limit):
         counts.stop.value = 1
         for it in workers:
             it.join()
-        raise command.Failure(130, f"interrupted; {counts.done.value - before} cases were run, and the same command goes on") from None
+        raise command.Failure(command.INTERRUPTED, f"interrupted; {counts.done.value - before} cases were run, and the same command goes on") from None
     if said.poll() or any(it.exitcode for it in workers):
         why = said.recv() if said.poll() else "a worker was ended"
         raise command.Failure(command.WRITE_FAILED, f"cannot go on: {why}; the same command does, where it was")

@@ -3,7 +3,9 @@ import re
 from dataclasses import dataclass
 from typing import NamedTuple, Optional
 
-from lines import HYPOTHESIS, NUMBER, SERVICE, SET, Lines, nodes_of, number, shown
+from . import command
+from .lines import HYPOTHESIS, NUMBER, SERVICE, SET, Lines, Malformed, nodes_of, number, shown
+from .words import FORMATS, TABLES, one_of
 
 # The exit statuses with which a text of check is written: nothing is broken or open, a part is broken, and none is but one is open.
 HELD, BROKEN, OPEN = 0, 9, 10
@@ -41,7 +43,7 @@ PARTED = re.compile(rf"parted node ({NUMBER}) node ({NUMBER}) place ({NUMBER}) {
 VIEW = re.compile(rf"view (?P<number>{NUMBER}) node (?P<a>{NUMBER}) (?P<members>{SET}) node (?P<b>{NUMBER}) (?P<others>{SET})")
 ACCUSED = re.compile(rf"accused (?P<node>{NUMBER}) by (?P<by>{SET}) first (?P<slot>{NUMBER})")
 UNUSED = re.compile(
-    rf"unused (?P<table>send|fault|join|leave|restart) (?P<place>{NUMBER}) "
+    rf"unused (?P<table>{one_of(TABLES)}) (?P<place>{NUMBER}) "
     rf"(?P<why>stopped|runs|carried -|(?:from|attempts) {NUMBER}|slot {NUMBER} (?:ruled|idle|rejects -|stops -))"
 )
 
@@ -183,8 +185,8 @@ def part(lines, name, pattern):
 def head(lines):
     """Format, first break and parts."""
     first = lines.match(FIRST, "canely check FORMAT")
-    if int(first["format"]) not in (1, 2):
-        raise lines.fault(f"the text is of format {first['format']}, and this tool knows 1 and 2")
+    if int(first["format"]) not in FORMATS:
+        raise lines.fault(f"the text is of format {first['format']}, and this tool knows {' and '.join(map(str, FORMATS))}")
     found = lines.match(HYPOTHESIS, "hypothesis within' or 'hypothesis outside KIND SLOT")
     first_break = (found["kind"], int(found["slot"])) if found["kind"] else None
     return int(first["format"]), first_break, {name: part(lines, name, pattern) for name, pattern in PARTS.items()}
@@ -230,6 +232,18 @@ def read_check(data):
     lines.end()
     only = lambda found: found[0] if found else None
     return Check(*found, only(wrong), messages, only(partings), views, signs, accusations, unused)
+
+
+def check_from(path, report):
+    """The text of check in a file, for a command that has the report of the same run."""
+    try:
+        check = read_check(command.read_bytes(path))
+    except Malformed as error:
+        raise command.Failure(command.REFUSED, f"{path}: {error}") from None
+    if (check.format, check.first_break) != (report.format, report.first_break):
+        raise command.Failure(command.REFUSED, f"{path}: its format or its hypothesis is not that of the report")
+    report.check_asks({(it.service, it.origin, it.seq): it.slot for it in check.messages}, path)
+    return check
 
 
 def fact(thing):

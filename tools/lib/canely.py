@@ -3,9 +3,9 @@ import shlex
 import shutil
 import subprocess
 
-import command
-from lines import Malformed
-from report import read_report
+from . import command
+from .lines import Malformed
+from .report import read_report
 
 # What `canely check` says of a scenario without a word.
 REFUSED_EMPTY = b"refused missing key format in top 0\n"

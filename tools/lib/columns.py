@@ -3,8 +3,10 @@ from collections import defaultdict
 from dataclasses import dataclass, field
 from typing import NamedTuple, Optional
 
-from report import Delivery, Failure, Slot, View
+from .report import Delivery, Failure, Slot, View
 
+# A slot that no run reaches.
+MOST_SLOT = 10**9
 # What a node did in a slot: the keys of the marks of both pictures.
 SENT, SAW_ERROR, ACCEPTED, REJECTED, MUTED, IDLE, GONE = "sent", "saw error", "accepted", "rejected", "muted", "idle", "gone"
 

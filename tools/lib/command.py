@@ -3,8 +3,8 @@ import argparse
 import os
 import sys
 
-# The exit statuses are those that canely has for the same causes.
-WRONG_ARGUMENTS, REFUSED, READ_FAILED, WRITE_FAILED = 2, 3, 4, 5
+# The exit statuses are those that canely has for the same causes, but for that of a program which could not be built.
+NOT_BUILT, WRONG_ARGUMENTS, REFUSED, READ_FAILED, WRITE_FAILED, INTERRUPTED = 1, 2, 3, 4, 5, 130
 
 
 class Parser(argparse.ArgumentParser):
@@ -50,12 +50,17 @@ def read_bytes(path):
 
 
 def write(lines):
-    """Writes lines to standard output. A reader that has gone, as `head` does, is a failure like a full disk."""
+    """Writes lines to standard output."""
+    write_bytes(line.encode() + b"\n" for line in lines)
+
+
+def write_bytes(pieces):
+    """Writes pieces of bytes to standard output. A reader that has gone, as `head` does, is a failure like a full disk."""
     try:
         if sys.stdout is None:
             raise OSError("it is closed")
-        for line in lines:
-            sys.stdout.buffer.write(line.encode() + b"\n")
+        for piece in pieces:
+            sys.stdout.buffer.write(piece)
         sys.stdout.buffer.flush()
     except OSError as error:
         if sys.stdout is not None:
@@ -65,12 +70,11 @@ def write(lines):
 
 
 def run(name, work):
-    """The exit status of a command, whose work may end by a Failure."""
+    """The exit status of a command: what its work answers, 0 where that is nothing, or that of the Failure by which it ends."""
     try:
-        work()
+        return work() or 0
     except Failure as failure:
         print(f"{name}: {failure}", file=sys.stderr)
         return failure.status
     except KeyboardInterrupt:
-        return 130
-    return 0
+        return INTERRUPTED

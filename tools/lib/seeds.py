@@ -1,14 +1,12 @@
 """Small scenarios that are drawn from numbers, of stated shapes."""
 from typing import NamedTuple
 
-from faults import VERDICTS
-from report import MOST_NODES
-from scenario import keys_of
-from storm_text import SERVICES, Words
+from .scenario import keys_of
+from .storm import Words
+from .words import FAULTY, LIMITS, SERVICES, format_for
 
 # The stream of the generator; that of the storms is another.
 STREAM = 2
-MOST_BYTES = 8
 
 
 class Shapes(NamedTuple):
@@ -23,7 +21,7 @@ class Shapes(NamedTuple):
     joins: tuple
     leaves: tuple
     restarts: tuple
-    verdicts: tuple = VERDICTS
+    verdicts: tuple = FAULTY
 
 
 class Draw:
@@ -85,11 +83,11 @@ def scenario_of(number, shapes):
     """The scenario of a number."""
     draw = Draw(number)
     nodes, slots = draw.between(*shapes.nodes), draw.between(*shapes.slots)
-    scenario = {"format": 1 if nodes <= MOST_NODES[1] else 2, "nodes": nodes, "slots": slots}
+    scenario = {"format": format_for(nodes), "nodes": nodes, "slots": slots}
     scenario.update(omit=draw.between(*shapes.omit), errors=draw.between(*shapes.errors))
     sends = []
     for entry in sorted(entries_drawn(draw, shapes.sends, nodes, slots), key=lambda it: it["slot"]):
-        payload = bytes(draw.between(0, 255) for _ in range(draw.between(0, MOST_BYTES)))
+        payload = bytes(draw.between(0, 255) for _ in range(draw.between(0, LIMITS.payload_bytes)))
         sends.append({**entry, "service": draw.one_of(SERVICES), "data": payload.hex()})
     faults = faults_drawn(draw, shapes, nodes, slots, sends)
     tables = {"send": sends, "fault": faults}

@@ -1,10 +1,9 @@
 """Scenarios that are smaller than one: without some of its entries or nodes, with smaller sets, fewer slots, lower or earlier entries."""
-from scenario import TABLES, keys_of
+from .scenario import keys_of
+from .words import LIMITS, OF_MESSAGES, TABLES
 
-# The classes whose frames are those of a message, which another send of its origin may renumber.
-OF_MESSAGES = ("ed", "rel", "tot", "accept", "confirm")
+# The parameters and keys that a scenario may lack.
 OPTIONAL = ("journal", "members", "confirm", "silence", "life", "cycle", "bound", "errors", "omit", "lag")
-LEAST_NODES = 2
 
 
 def changed(scenario, **tables):
@@ -61,6 +60,17 @@ def smaller_sets(scenario):
                 yield with_entry(scenario, "fault", place, {**others, **({name: left} if left else {})})
 
 
+def lower_sets(scenario):
+    """What a node does in a fault one of a lower number does, so that the node itself may go."""
+    for place, rule in enumerate(scenario.get("fault", [])):
+        for name in ("reject", "stop"):
+            nodes = rule.get(name, [])
+            for node in nodes:
+                others = [it for it in nodes if it != node]
+                lower = (it for it in range(node) if it not in others)
+                yield from (with_entry(scenario, "fault", place, {**rule, name: sorted([*others, it])}) for it in lower)
+
+
 def without_node(scenario, node):
     """The nodes above have numbers one less. None where an entry is of the node itself."""
     less = lambda it: it - 1 if it > node else it
@@ -81,7 +91,7 @@ def without_node(scenario, node):
 
 
 def fewer_nodes(scenario):
-    if scenario["nodes"] > LEAST_NODES:
+    if scenario["nodes"] > LIMITS.least_nodes:
         yield from filter(None, (without_node(scenario, node) for node in reversed(range(scenario["nodes"]))))
 
 
@@ -129,4 +139,4 @@ def fewer_keys(scenario):
 
 
 # What is tried, in this order, again and again until nothing helps.
-WAYS = (fewer_keys, fewer_entries, fewer_slots, fewer_nodes, lower_origins, smaller_sets, earlier_slots, shorter_payloads)
+WAYS = (fewer_keys, fewer_entries, fewer_slots, fewer_nodes, lower_origins, smaller_sets, lower_sets, earlier_slots, shorter_payloads)

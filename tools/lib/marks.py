@@ -1,7 +1,8 @@
 """The marks of a picture: their colours and shapes, and what each means."""
-from columns import ACCEPTED, MUTED, REJECTED, SAW_ERROR, SENT, spans
-from report import Delivery, Failure, View
-from svg import element, short, text, tooltip, width_of
+from .columns import ACCEPTED, MUTED, REJECTED, SAW_ERROR, SENT, spans
+from .report import Delivery, Failure, View
+from .svg import element, short, text, tooltip, width_of
+from .words import SERVICES
 
 # By class of frame the colour of Okabe and Ito, which most people tell apart, and a darker one for words.
 COLOURS = {
@@ -99,7 +100,7 @@ def legend(used):
         yield lambda x, y: stop(x + 4, y, ""), 7, "stops"
     if "starts" in used:
         yield lambda x, y: start(x, y, ""), 9, "starts again"
-    for service in ("ed", "rel", "tot"):
+    for service in SERVICES:
         if service in used:
             word = "0.1"
             yield tagged(word, INKS[service], "white", INKS[service]), tag_width(word), f"delivers {service} 0 1"

@@ -1,7 +1,7 @@
 """A run as a chart of text: slots downwards, and a letter for what each node did."""
 import textwrap
 
-from columns import ACCEPTED, GONE, IDLE, MUTED, REJECTED, SAW_ERROR, SENT, did, findings, happenings, spans, summary
+from .columns import ACCEPTED, GONE, IDLE, MUTED, REJECTED, SAW_ERROR, SENT, did, findings, happenings, spans, summary
 
 LETTERS = {SENT: "S", SAW_ERROR: "E", ACCEPTED: "o", REJECTED: "x", MUTED: "~", IDLE: ".", GONE: " "}
 WORDS = {

@@ -5,7 +5,6 @@ from bisect import bisect_right
 from collections import Counter
 from typing import NamedTuple
 
-VERDICTS = ("lost", "partial", "silent")
 STOPS = ("none", "senders")
 
 

@@ -4,9 +4,10 @@ from pathlib import Path
 from typing import NamedTuple, Optional
 from xml.sax.saxutils import escape, quoteattr
 
-from cases import case_paths, status_of
-from lines import Malformed
-from verdict import BROKEN, HEAD, HELD, OPEN, Outline, read_outline
+from .cases import case_paths, status_of
+from .lines import Malformed
+from .verdict import BROKEN, HEAD, HELD, OPEN, Outline, read_outline
+from .words import BREAKS
 
 JUDGEMENTS = ("held", "open", "broken")
 
@@ -100,7 +101,7 @@ def table(found, given):
     yield from (f"otherwise {it.name} {it.failure}" for it in failed[:10])
     yield from unused_lines(judged, given)
     kinds = Counter(it.check.first_break[0] for it in judged if it.check.first_break)
-    yield f"hypothesis within {sum(it.is_within for it in judged)} " + " ".join(f"{kind} {kinds[kind]}" for kind in ("silent", "omit", "errors"))
+    yield f"hypothesis within {sum(it.is_within for it in judged)} " + " ".join(f"{kind} {kinds[kind]}" for kind in BREAKS)
     yield ""
     yield from part_rows(judged)
 

@@ -1,8 +1,6 @@
 """A frame on the wire: its identifier, and how many bits it has."""
-from report import CLASSES
+from .words import CLASSES, FORMATS
 
-# The lowest bit of the number in the identifier, by format.
-NUMBER_SHIFT = {1: 9, 2: 10}
 # The longest frame with an error frame and the intermission: no slot with a frame is longer.
 SLOT_BITS = 180
 # From the end of a frame to that of the error frame in it: a flag of 6 bits and a delimiter of 8.
@@ -14,7 +12,7 @@ CRC_POLYNOMIAL, CRC_BITS = 0x4599, 15
 
 def identifier(version, frame):
     """The 29 bits of a frame of this format."""
-    return CLASSES.index(frame.kind) << 25 | frame.number << NUMBER_SHIFT[version] | frame.node << 4 | frame.incarnation
+    return CLASSES.index(frame.kind) << 25 | frame.number << FORMATS[version].number_shift | frame.node << 4 | frame.incarnation
 
 
 def bits_of(number, count):

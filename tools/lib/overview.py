@@ -1,7 +1,7 @@
 """A whole run on one strip of a picture: when each node ran, where faults were, and how busy the bus was."""
-from marks import GREEN, GREY, PALE, RED
-from report import Failure, View
-from svg import element, short, text, tooltip
+from .marks import GREEN, GREY, PALE, RED
+from .report import Failure, View
+from .svg import element, short, text, tooltip
 
 MOST_LABELLED = 16
 LOAD = 22
