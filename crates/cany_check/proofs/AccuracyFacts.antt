@@ -9,7 +9,7 @@ use Rattle.cany_base.specs.Limits.{most_nodes}
 use Rattle.cany_base.specs.Nodes.{Nodes}
 use Rattle.cany_check.specs.declared.findings.Accusation.{Accusation}
 use Rattle.cany_check.specs.declared.holders.Holders.{Holders}
-use Rattle.cany_check.specs.declared.record.Slots.{Slots}
+use Rattle.cany_check.specs.declared.record.FirstAndLast.{FirstAndLast}
 use Rattle.cany_check.specs.Account.{AccountParts, LogParts, running}
 use Rattle.cany_check.specs.Accuracy.{accusation_of, accuses, is_failure_of}
 use Rattle.cany_check.specs.Fates.{slots_where}
@@ -55,11 +55,11 @@ all_that_run (x ∷ logs) = by_test x.runs (filter (counts_since None) logs) (ru
     by_test true ps qs same = ap (λ l. x ∷ l) same
     by_test false ps qs same = same
 
-abbrev accusation_by : (node : ℕ) → Nodes → Option Slots → Option Accusation
-accusation_by node by slots = option_map (λ (s : Slots). record { node = node; by = by; first = s.first }) slots
+abbrev accusation_by : (node : ℕ) → Nodes → Option FirstAndLast → Option Accusation
+accusation_by node by slots = option_map (λ (s : FirstAndLast). record { node = node; by = by; first = s.first }) slots
 
 -- it is read off those that accuse the node, if they did so in some slots
-pub accused_by : (a : AccountParts) (log : LogParts) (accusers : List Holders) (i : ℕ) (h : Holders) (slots : Option Slots)
+pub accused_by : (a : AccountParts) (log : LogParts) (accusers : List Holders) (i : ℕ) (h : Holders) (slots : Option FirstAndLast)
     → AreHolders most_nodes is_failure_of since_ever a.logs accusers
     → i ≡ log.node → log.node < most_nodes → h ≡ slice_index_or accusers i h → h.slots ≡ slots → accusation_by log.node h.has slots ≡ accusation_of a log
 unfolding holders_in
@@ -68,5 +68,5 @@ accused_by a log accusers i h slots are here below is told =
     let same : h ≡ of_all = is ∙ ap (λ k. slice_index_or accusers k h) here ∙ get_or_from_slice_get accusers log.node of_all h (are.each log.node below) in
     ap (accusation_by log.node h.has) (sym told)
     ∙ ap (λ (x : Holders). accusation_by log.node x.has x.slots) same
-    ∙ ap (λ logs. option_map (λ (slots : Slots). record { node = log.node; by = nodes_of (filter (accuses log.node) logs); first = slots.first }) (slots_where (is_failure_of log.node) (filter (accuses log.node) logs)))
+    ∙ ap (λ logs. option_map (λ (slots : FirstAndLast). record { node = log.node; by = nodes_of (filter (accuses log.node) logs); first = slots.first }) (slots_where (is_failure_of log.node) (filter (accuses log.node) logs)))
     (all_that_run a.logs)

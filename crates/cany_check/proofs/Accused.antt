@@ -24,7 +24,7 @@ use Rattle.cany_model.proofs.Promises.SignAgrees.{signed_known}
 use Rattle.cany_model.proofs.Timed.Detector.Accuracy.{NoSign, no_sign, timely_front}
 use Rattle.cany_model.proofs.Timed.Detector.DetectorLaws.{one_vector_fronts, quiet_fronts}
 use Rattle.cany_model.proofs.Timed.Detector.NoRestarts.{all_original, follows, history_all}
-use Rattle.cany_check.specs.declared.record.Slots.{Slots}
+use Rattle.cany_check.specs.declared.record.FirstAndLast.{FirstAndLast}
 use Rattle.cany_check.specs.Account.{AccountParts, LogParts, account_of}
 use Rattle.cany_check.specs.Accuracy.{accusation_of, accusations, accusers, is_failure_of}
 use Rattle.cany_check.specs.Fates.{least_and_greatest, slots_where, with_slot}
@@ -55,7 +55,7 @@ module _ (scenario : ScenarioParts) (legal : IsLegalScenario scenario) (none : s
 
 -- ---- the accusations of an account
 
-still_some : (slots : List ℕ) (x : Slots) → fold with_slot (Some x) slots ≡ None → ⊥
+still_some : (slots : List ℕ) (x : FirstAndLast) → fold with_slot (Some x) slots ≡ None → ⊥
 still_some [] x h = absurd (cc)
 still_some (slot ∷ slots) x h = still_some slots (record { first = min slot x.first; last = max slot x.last }) h
 
@@ -101,7 +101,7 @@ module _ (scenario : ScenarioParts) (journal : List Step) where
 
   unaccused : (r : ℕ) → StandsInNone scenario s r → accusation_of a (log_at scenario s r) ≡ None
   unaccused r none =
-      ap (option_map (λ (slots : Slots). record { node = r; by = nodes_of (accusers a r); first = slots.first }))
+      ap (option_map (λ (slots : FirstAndLast). record { node = r; by = nodes_of (accusers a r); first = slots.first }))
       (no_slots (failure_slots r (accusers a r)) (all_empty (λ (l : LogParts). map entry_slot (filter (is_failure_of r) l.entries)) (accusers a r)
       (each_filter (λ (l : LogParts). map entry_slot (filter (is_failure_of r) l.entries) ≡ []) (λ (l : LogParts). list_any (is_failure_of r) l.entries) (correct a) (along (correct a) (each_correct scenario s (unread_fits scenario journal))))))
     where
@@ -119,7 +119,7 @@ module _ (scenario : ScenarioParts) (journal : List Step) where
   accused r none i c slot cycle stands =
       let entry : LogEntry = Failed slot r cycle in
       let empty : failure_slots r (accusers a r) ≡ [] =
-      some_slots (failure_slots r (accusers a r)) (no_map (λ (slots : Slots). record { node = r; by = nodes_of (accusers a r); first = slots.first }) (slots_where (is_failure_of r) (accusers a r)) none) in
+      some_slots (failure_slots r (accusers a r)) (no_map (λ (slots : FirstAndLast). record { node = r; by = nodes_of (accusers a r); first = slots.first }) (slots_where (is_failure_of r) (accusers a r)) none) in
       let among : Among (λ e. e ≡ entry) (log scenario s i) = Among-from_Contains (log scenario s i) entry stands in
       let passes : is_failure_of r entry ≡ true = eq-eqb r r refl in
       let tells : list_any (is_failure_of r) (log scenario s i) ≡ true =

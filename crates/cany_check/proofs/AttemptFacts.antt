@@ -27,7 +27,7 @@ use Rattle.cany_model.proofs.Bus.Identities.{same_identity-true}
 use Rattle.cany_model.proofs.Bus.Seen.{Numbered}
 use Rattle.cany_model.proofs.Promises.OwnSlotsAlone.{run_numbered}
 use Rattle.cany_model.proofs.Runs.Runs.{orderly}
-use Rattle.cany_check.specs.declared.attempts.Attempts.{Attempts}
+use Rattle.cany_check.specs.declared.attempts.AttemptSlots.{AttemptSlots}
 use Rattle.can_fault.specs.declared.identity.Attempt.{Attempt}
 use Rattle.can_fault.specs.declared.identity.FrameIdentity.{FrameIdentity}
 use Rattle.cany_check.specs.Attempts.{AreAttempts, AreZero, asked_frame, count_of, is_asked, is_named, is_ruled, raised, slot_of}
@@ -106,14 +106,14 @@ all_entered scenario p rules joins leaves none first second third params_is rule
 
 -- ---- one more slot
 
-pub first_attempts : (named : Identity → Bool) (kept : Attempts) → AreZero named kept.counts.entries → kept.slots.entries ≡ [] → AreAttempts named [] kept
+pub first_attempts : (named : Identity → Bool) (kept : AttemptSlots) → AreZero named kept.counts.entries → kept.slots.entries ≡ [] → AreAttempts named [] kept
 unfolding attempt_slot
 first_attempts named kept zero none = record {
   counted = zero;
   placed = λ x h nth. ap (λ slots. slot_of slots x nth) none;
 }
 
-grown : (named : Identity → Bool) (trace : List SlotNote) (note : SlotNote) (old new : Attempts) → AreAttempts named trace old
+grown : (named : Identity → Bool) (trace : List SlotNote) (note : SlotNote) (old new : AttemptSlots) → AreAttempts named trace old
     → ((x : Identity) → named x ≡ true → count_of new.counts.entries x ≡ (if carried (is_of x) note then Some (attempts x trace + 1) else count_of old.counts.entries x))
     → ((x : Identity) → named x ≡ true → (nth : ℕ) → slot_of new.slots.entries x nth ≡ (if carried (is_of x) note && attempts x trace + 1 == nth then Some note.slot else slot_of old.slots.entries x nth))
     → AreAttempts named (note ∷ trace) new
@@ -130,7 +130,7 @@ grown named trace note old new are counts slots = record {
   placed = λ x h nth. slots x h nth ∙ ap (λ o. if carried (is_of x) note && attempts x trace + 1 == nth then Some note.slot else o) (are.placed x h nth);
 }
 
-pub idle_slot : (named : Identity → Bool) (trace : List SlotNote) (note : SlotNote) (kept : Attempts) → note.frame ≡ None → AreAttempts named trace kept → AreAttempts named (note ∷ trace) kept
+pub idle_slot : (named : Identity → Bool) (trace : List SlotNote) (note : SlotNote) (kept : AttemptSlots) → note.frame ≡ None → AreAttempts named trace kept → AreAttempts named (note ∷ trace) kept
 idle_slot named trace note kept idle are =
     let unlike : (x : Identity) → carried (is_of x) note ≡ false = λ x. ap (λ o. option_map_or (is_of x) o false) idle in
     grown named trace note kept kept are (λ x h. rw (unlike x) refl) (λ x h nth. rw (unlike x) refl)
@@ -142,7 +142,7 @@ none-some : (n : ℕ) → Some n ≡ None → ⊥
 none-some n h = cc
 
 -- of a frame that no entry names
-pub unnamed_slot : (named : Identity → Bool) (trace : List SlotNote) (note : SlotNote) (f : FrameParts) (kept : Attempts) → note.frame ≡ Some f → AreAttempts named trace kept
+pub unnamed_slot : (named : Identity → Bool) (trace : List SlotNote) (note : SlotNote) (f : FrameParts) (kept : AttemptSlots) → note.frame ≡ Some f → AreAttempts named trace kept
     → None ≡ get identity_cmp kept.counts (frame_identity (identity_of f)) → AreAttempts named (note ∷ trace) kept
 unnamed_slot named trace note f kept e are none =
     let y = identity_of f in
@@ -159,7 +159,7 @@ raised_once : (n : ℕ) → n + 1 < 2 ^ 64 → raised n ≡ n + 1
 raised_once n h = omega (arith, h)
 
 -- of a frame that is kept: its count was this, and is raised
-pub named_slot : (named : Identity → Bool) (trace : List SlotNote) (note : SlotNote) (f : FrameParts) (before nth : ℕ) (old new : Attempts) → length trace + 1 < 2 ^ 64 → note.frame ≡ Some f → AreAttempts named trace old
+pub named_slot : (named : Identity → Bool) (trace : List SlotNote) (note : SlotNote) (f : FrameParts) (before nth : ℕ) (old new : AttemptSlots) → length trace + 1 < 2 ^ 64 → note.frame ≡ Some f → AreAttempts named trace old
     → Some before ≡ get identity_cmp old.counts (frame_identity (identity_of f)) → nth ≡ raised before
     → ((q : FrameIdentity) → get identity_cmp new.counts q ≡ (if is_at (identity_cmp (frame_identity (identity_of f))) q then Some nth else get identity_cmp old.counts q))
     → ((q : Attempt) → get attempt_cmp new.slots q ≡ (if is_at (attempt_cmp (attempt_of (identity_of f) nth)) q then Some note.slot else get attempt_cmp old.slots q))

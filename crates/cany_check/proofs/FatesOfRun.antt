@@ -33,7 +33,7 @@ use Rattle.cany_world.specs.Settled.{is_asked, nodes_ahead, waiting_nodes}
 use Rattle.cany_world.proofs.UnsettledFacts.{nobody_has_ahead, nobody_waits}
 use Rattle.cany_check.specs.declared.record.MessageRecord.{MessageRecord}
 use Rattle.cany_check.specs.declared.record.SignRecord.{SignRecord}
-use Rattle.cany_check.specs.declared.record.Slots.{Slots}
+use Rattle.cany_check.specs.declared.record.FirstAndLast.{FirstAndLast}
 use Rattle.cany_check.specs.declared.findings.Fate.{Fate}
 use Rattle.cany_check.specs.declared.findings.Fate.TheVariants.{Apart, Open}
 use Rattle.cany_check.specs.Account.{AccountParts, LogParts, account_of, first_and_last, is_sign_before, last_carried, logs_of, message_record, running, sign_in, sign_record, signs_told, slots_of}
@@ -263,11 +263,11 @@ module _ (scenario : ScenarioParts) (journal : List Step) (few : scenario.params
         by_first : (o : Option ℕ) → first_of_message m s.trace ≡ o → IsAgreedFrom scenario s m o
         by_first (Some first) is =
             let slots = slots_some (data_id m) s.trace first is in
-            let at : since ≡ first = ap (λ o. option_map_or (λ (x : Slots). x.first) o m.slot) slots.1 in
+            let at : since ≡ first = ap (λ o. option_map_or (λ (x : FirstAndLast). x.first) o m.slot) slots.1 in
             subst (λ t. is_settled scenario s m ≡ true → (i : ℕ) → IsCorrectFrom scenario s t i → (i ≡ m.origin) ⊎ HasDelivered scenario s i m
             → (j : ℕ) → IsCorrectFrom scenario s t j → HasDelivered scenario s j m) at (all_or_none whole)
         by_first None never =
-            let at : since ≡ m.slot = ap (λ o. option_map_or (λ (x : Slots). x.first) o m.slot) (slots_none (data_id m) s.trace never) in (
+            let at : since ≡ m.slot = ap (λ o. option_map_or (λ (x : FirstAndLast). x.first) o m.slot) (slots_none (data_id m) s.trace never) in (
               never_delivered never,
               λ settled c.
                   never_delivered never m.origin c.correct
@@ -284,10 +284,10 @@ module _ (scenario : ScenarioParts) (journal : List Step) (few : scenario.params
         by_first : (o : Option ℕ) → first_of_message m s.trace ≡ o → IsAgreedFrom scenario s m o → ⊥
         by_first (Some first) is from =
             let slots = slots_some (data_id m) s.trace first is in
-            let at : since ≡ first = ap (λ o. option_map_or (λ (x : Slots). x.first) o m.slot) slots.1 in
+            let at : since ≡ first = ap (λ o. option_map_or (λ (x : FirstAndLast). x.first) o m.slot) slots.1 in
             p.lacks (from p.settled p.i (subst (λ t. IsCorrectFrom scenario s t p.i) at p.counts) p.because p.j (subst (λ t. IsCorrectFrom scenario s t p.j) at p.counts_too))
         by_first None never from =
-            let at : since ≡ m.slot = ap (λ o. option_map_or (λ (x : Slots). x.first) o m.slot) (slots_none (data_id m) s.trace never) in
+            let at : since ≡ m.slot = ap (λ o. option_map_or (λ (x : FirstAndLast). x.first) o m.slot) (slots_none (data_id m) s.trace never) in
             elim p.because [
               | inl same ↦ from.1 p.settled (subst (IsCorrectFrom scenario s m.slot) same (subst (λ t. IsCorrectFrom scenario s t p.i) at p.counts))
               | inr had ↦ from.0 p.i p.counts.correct had
@@ -395,10 +395,10 @@ module _ (scenario : ScenarioParts) (journal : List Step) (few : scenario.params
     small_all i c = omega (arith, c.there, few)
 
     -- the test of those that count, by the slots that carried the frame
-    abbrev counts_by : Option Slots → LogParts → Bool
-    counts_by slots log = option_map_or (λ (x : Slots). takes_part x.first log) slots true
+    abbrev counts_by : Option FirstAndLast → LogParts → Bool
+    counts_by slots log = option_map_or (λ (x : FirstAndLast). takes_part x.first log) slots true
 
-    abbrev fate_by : Option Slots → Fate
+    abbrev fate_by : Option FirstAndLast → Fate
     fate_by slots =
         sign_fate_of waited (not (is_none slots)) (is_nobody (nodes_of (filter (knows r') (filter (counts_by slots) (correct a)))))
         (is_nobody (nodes_of (filter (λ x. not (knows r' x)) (filter (counts_by slots) (correct a)))))

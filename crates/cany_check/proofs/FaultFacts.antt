@@ -98,7 +98,7 @@ some_of_meet a b both has_both is =
 -- ---- which of the two is said of a verdict
 
 abbrev pub picked : Bool → Bool → Bool → Bool → List NoFault → List NoFault → List NoFault
-picked clean idle none some x y = if not clean && idle then x else if not none && not idle && not some then y else []
+picked clean idle none some x y = if not clean && idle then x else if not idle && not none && not some then y else []
 
 pub pick_clean : (none some : Bool) (x y : List NoFault) → picked true true none some x y ≡ []
 pick_clean true some x y = refl
@@ -129,7 +129,8 @@ module _ (s : RunState) (slot : ℕ) (v : Verdict) (n : SlotNote) (carries : is_
   rejects_there = RejectsNobody slot ∷ []
 
   carried_first : unused_verdict s slot v (Some n) ≡ picked (is_clean v) false (is_nobody (reject_set v)) rejecting idle_there rejects_there
-  carried_first = ap (λ b. picked (is_clean v) (not b) (is_nobody (reject_set v)) rejecting idle_there rejects_there) carries
+  carried_first =
+      ap (λ b. if not (is_clean v) && not b then idle_there else if b && not (is_nobody (reject_set v)) && not rejecting then rejects_there else []) carries
 
   pub verdict_none : is_nobody (reject_set v) ≡ true → [] ≡ unused_verdict s slot v (Some n)
   verdict_none none =

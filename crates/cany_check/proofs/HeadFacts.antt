@@ -16,7 +16,7 @@ use Rattle.cany_check.specs.Account.{AccountParts}
 use Rattle.cany_check.specs.CheckHead.{accuracy_line, agreement_line, first_line, head_lines, integrity_line, judgement_name, order_line, signs_line, views_line}
 use Rattle.cany_check.specs.Counts.{counts_of, lengths_of, running_counts}
 use Rattle.cany_check.specs.Fates.{sign_fate}
-use Rattle.cany_check.specs.HeadParts.{fate_texts, part_line}
+use Rattle.cany_check.specs.HeadParts.{fate_count_texts, part_line}
 use Rattle.cany_check.specs.Verdict.{fates_of_service, judgement, parts}
 use Rattle.cany_check.specs.Views.{view_numbers, view_partings}
 
@@ -28,7 +28,7 @@ module _ (a : AccountParts) (judged : Judgement) (part : Part) (is : judged ≡ 
   integrity-put of = rw (is, of) refl
 
   pub agreement-put : (by : Service) (counts : FateCounts) → part ≡ Agreement by → counts ≡ counts_of (fates_of_service a by)
-      → part_line a part ≡ line_of (codes "agreement" ∷ service_name by ∷ judgement_name judged ∷ fate_texts counts)
+      → part_line a part ≡ line_of (codes "agreement" ∷ service_name by ∷ judgement_name judged ∷ fate_count_texts counts)
   unfolding part_line agreement_line
   agreement-put by counts of counted = rw (is, of, counted) refl
 
@@ -43,7 +43,7 @@ module _ (a : AccountParts) (judged : Judgement) (part : Part) (is : judged ≡ 
   views-put numbers apart of n p = rw (is, of, n, p) refl
 
   pub signs-put : (counts : FateCounts) → part ≡ Signs → counts ≡ counts_of (map (sign_fate a) a.signs)
-      → part_line a part ≡ line_of (codes "signs" ∷ judgement_name judged ∷ fate_texts counts)
+      → part_line a part ≡ line_of (codes "signs" ∷ judgement_name judged ∷ fate_count_texts counts)
   unfolding part_line signs_line
   signs-put counts of counted = rw (is, of, counted) refl
 

@@ -17,7 +17,7 @@ use Rattle.cany_base.proofs.SetFacts.{with_node_twice}
 use Rattle.cany_check.specs.declared.holders.Holders.{Holders}
 use Rattle.cany_check.specs.Account.{AccountParts, LogParts}
 use Rattle.cany_check.specs.Fates.{least_and_greatest, with_slot}
-use Rattle.cany_check.specs.Holders.{AreHolders, IsOnly, counts_since, cut, holders_in, no_holders, tells_in, with_entry}
+use Rattle.cany_check.specs.Holders.{AreHolders, IsOnly, counts_since, log_with, holders_in, no_holders, tells_in, with_entry}
 use Rattle.cany_check.specs.Orderly.{IsLogIn, IsOrderly}
 use Rattle.cany_check.specs.Words.{entry_slot, nodes_of}
 
@@ -136,11 +136,11 @@ module _ (tells : LogEntry → Bool) (since : Option ℕ) (before : List LogPart
   abbrev with_these : List LogEntry → Holders
   with_these es = with_log (holders_in tells since before) log.node (counts_since since log) (list_any tells es) (map entry_slot (filter tells es))
 
-  with_them : (es : List LogEntry) → holders_in tells since (before ++ cut log es ∷ []) ≡ with_these es
-  with_them es = one_log tells since before (cut log es)
+  with_them : (es : List LogEntry) → holders_in tells since (before ++ log_with log es ∷ []) ≡ with_these es
+  with_them es = one_log tells since before (log_with log es)
 
   -- one that does not tell of it
-  pub entry_of_another : tells e ≡ false → holders_in tells since (before ++ cut log (entries ++ e ∷ []) ∷ []) ≡ holders_in tells since (before ++ cut log entries ∷ [])
+  pub entry_of_another : tells e ≡ false → holders_in tells since (before ++ log_with log (entries ++ e ∷ []) ∷ []) ≡ holders_in tells since (before ++ log_with log entries ∷ [])
   entry_of_another other = with_them (entries ++ e ∷ []) ∙ same ∙ sym (with_them entries)
     where
       kept : filter tells (entries ++ e ∷ []) ≡ filter tells entries
@@ -155,8 +155,8 @@ module _ (tells : LogEntry → Bool) (since : Option ℕ) (before : List LogPart
           ∙ ap (λ l. with_log (holders_in tells since before) log.node (counts_since since log) (list_any tells entries) (map entry_slot l)) kept
 
   -- one that does
-  pub entry_of_it : tells e ≡ true → holders_in tells since (before ++ cut log (entries ++ e ∷ []) ∷ [])
-      ≡ with_entry (holders_in tells since (before ++ cut log entries ∷ [])) since log (entry_slot e)
+  pub entry_of_it : tells e ≡ true → holders_in tells since (before ++ log_with log (entries ++ e ∷ []) ∷ [])
+      ≡ with_entry (holders_in tells since (before ++ log_with log entries ∷ [])) since log (entry_slot e)
   entry_of_it here = with_them (entries ++ e ∷ []) ∙ more ∙ ap (λ h. with_entry h since log (entry_slot e)) (sym (with_them entries))
     where
       slots : map entry_slot (filter tells (entries ++ e ∷ [])) ≡ map entry_slot (filter tells entries) ++ entry_slot e ∷ []
@@ -176,8 +176,8 @@ module _ (tells : LogEntry → Bool) (since : Option ℕ) (before : List LogPart
           ∙ by_tests (holders_in tells since before) log.node (entry_slot e) (counts_since since log) (list_any tells entries) (map entry_slot (filter tells entries)) (no_slots tells entries)
 
 -- a log of which no entry was looked at
-no_entry : (tells : LogEntry → Bool) (since : Option ℕ) (before : List LogParts) (log : LogParts) → holders_in tells since (before ++ cut log [] ∷ []) ≡ holders_in tells since before
-no_entry tells since before log = one_log tells since before (cut log []) ∙ by_count (holders_in tells since before) log.node (counts_since since log)
+no_entry : (tells : LogEntry → Bool) (since : Option ℕ) (before : List LogParts) (log : LogParts) → holders_in tells since (before ++ log_with log [] ∷ []) ≡ holders_in tells since before
+no_entry tells since before log = one_log tells since before (log_with log []) ∙ by_count (holders_in tells since before) log.node (counts_since since log)
   where
     by_count : (h : Holders) (node : ℕ) (counts : Bool) → with_log h node counts false [] ≡ h
     by_count h node true = refl
@@ -217,30 +217,30 @@ module _ (number : ℕ) (tells : ℕ → LogEntry → Bool) (since : ℕ → Opt
   held_at logs holders k h are below is = is ∙ get_or_from_slice_get holders k (holders_in (tells k) (since k) logs) h (are.each k below)
 
   module _ (before : List LogParts) (log : LogParts) where
-    pub with_no_entry : (holders : List Holders) → AreHolders number tells since before holders → AreHolders number tells since (before ++ cut log [] ∷ []) holders
+    pub with_no_entry : (holders : List Holders) → AreHolders number tells since before holders → AreHolders number tells since (before ++ log_with log [] ∷ []) holders
     with_no_entry holders are = record { count = are.count; each = λ k below. are.each k below ∙ ap Some (sym (no_entry (tells k) (since k) before log)) }
 
-    module _ (entries : List LogEntry) (e : LogEntry) (holders : List Holders) (are : AreHolders number tells since (before ++ cut log entries ∷ []) holders) where
-      pub tells_of_none : IsOnly number (λ k. tells k e) None → AreHolders number tells since (before ++ cut log (entries ++ e ∷ []) ∷ []) holders
+    module _ (entries : List LogEntry) (e : LogEntry) (holders : List Holders) (are : AreHolders number tells since (before ++ log_with log entries ∷ []) holders) where
+      pub tells_of_none : IsOnly number (λ k. tells k e) None → AreHolders number tells since (before ++ log_with log (entries ++ e ∷ []) ∷ []) holders
       tells_of_none only = record {
         count = are.count;
         each = λ k below. are.each k below ∙ ap Some (sym (entry_of_another (tells k) (since k) before log entries e (only.only k below)));
       }
 
       pub tells_of_one : (index : ℕ) (old new : Holders) → IsOnly number (λ k. tells k e) (Some index) → old ≡ slice_index_or holders index old
-          → new ≡ with_entry old (since index) log (entry_slot e) → AreHolders number tells since (before ++ cut log (entries ++ e ∷ []) ∷ []) (slice_set holders index new)
+          → new ≡ with_entry old (since index) log (entry_slot e) → AreHolders number tells since (before ++ log_with log (entries ++ e ∷ []) ∷ []) (slice_set holders index new)
       tells_of_one index old new only is more = record { count = length-set holders index new ∙ are.count; each = at }
         where
-          there : old ≡ holders_in (tells index) (since index) (before ++ cut log entries ∷ [])
-          there = is ∙ get_or_from_slice_get holders index (holders_in (tells index) (since index) (before ++ cut log entries ∷ [])) old (are.each index only.within)
+          there : old ≡ holders_in (tells index) (since index) (before ++ log_with log entries ∷ [])
+          there = is ∙ get_or_from_slice_get holders index (holders_in (tells index) (since index) (before ++ log_with log entries ∷ [])) old (are.each index only.within)
 
-          at : (k : ℕ) → k < number → slice_get (slice_set holders index new) k ≡ Some (holders_in (tells k) (since k) (before ++ cut log (entries ++ e ∷ []) ∷ []))
+          at : (k : ℕ) → k < number → slice_get (slice_set holders index new) k ≡ Some (holders_in (tells k) (since k) (before ++ log_with log (entries ++ e ∷ []) ∷ []))
           at k below = elim (cases_eq k index) [
             | inl same ↦
                 let told : tells index e ≡ true = only.only index only.within ∙ eq-eqb index index refl in
                 ap (slice_get (slice_set holders index new)) same ∙ get_set_same holders index new (omega (arith, are.count, only.within))
                 ∙ ap Some (more ∙ ap (λ h. with_entry h (since index) log (entry_slot e)) there ∙ sym (entry_of_it (tells index) (since index) before log entries e told))
-                ∙ ap (λ j. Some (holders_in (tells j) (since j) (before ++ cut log (entries ++ e ∷ []) ∷ []))) (sym same)
+                ∙ ap (λ j. Some (holders_in (tells j) (since j) (before ++ log_with log (entries ++ e ∷ []) ∷ []))) (sym same)
             | inr other ↦
                 let not_told : tells k e ≡ false = only.only k below ∙ ne_eqb k index other in
                 get_set_other holders index k new other ∙ are.each k below ∙ ap Some (sym (entry_of_another (tells k) (since k) before log entries e not_told))

@@ -16,7 +16,7 @@ use Rattle.cany_model.proofs.Among.{Each-filter, Each-first, Each-second}
 use Rattle.cany_check.specs.declared.findings.Delivery.{Delivery}
 use Rattle.cany_check.specs.declared.order.Item.{Item}
 use Rattle.cany_check.specs.declared.record.MessageRecord.{MessageRecord}
-use Rattle.cany_check.specs.declared.record.Slots.{Slots}
+use Rattle.cany_check.specs.declared.record.FirstAndLast.{FirstAndLast}
 use Rattle.cany_check.specs.Account.{AccountParts}
 use Rattle.cany_check.specs.OneOrder.{delivery_in, is_carried_from, is_of_slots_from}
 use Rattle.cany_check.specs.Reference.{cut, delivery, first_slot, item_in, items_in}
@@ -147,13 +147,13 @@ module _ (a : AccountParts) (t : ℕ) (node : ℕ) where
       by_slot : (first : ℕ) → (if nat_le t first then d ∷ [] else []) ≡ map delivery (if nat_le t first then made first ∷ [] else [])
       by_slot first = elim (cases_Bool (nat_le t first)) [ inl since ↦ rw since refl | inr before ↦ rw before refl ]
 
-      by_carried : (o : Option Slots) → (if option_map_or (λ (slots : Slots). nat_le t slots.first) o false then d ∷ [] else [])
-          ≡ map delivery (cut t (option_to_list (option_map made (option_map (λ (slots : Slots). slots.first) o))))
+      by_carried : (o : Option FirstAndLast) → (if option_map_or (λ (slots : FirstAndLast). nat_le t slots.first) o false then d ∷ [] else [])
+          ≡ map delivery (cut t (option_to_list (option_map made (option_map (λ (slots : FirstAndLast). slots.first) o))))
       by_carried None = refl
       by_carried (Some slots) = by_slot slots.first
 
       by_find : (o : Option MessageRecord) → (if option_map_or (is_carried_from t) o false then d ∷ [] else [])
-          ≡ map delivery (cut t (option_to_list (option_map made (option_and_then (λ (m : MessageRecord). option_map (λ (slots : Slots). slots.first) m.carried) o))))
+          ≡ map delivery (cut t (option_to_list (option_map made (option_and_then (λ (m : MessageRecord). option_map (λ (slots : FirstAndLast). slots.first) m.carried) o))))
       by_find None = refl
       by_find (Some m) = by_carried m.carried
 

@@ -9,7 +9,7 @@ use Rattle.cany_check.specs.declared.fate_fields.FateFields.{FateFields}
 use Rattle.cany_check.specs.declared.findings.Told.{Told}
 use Rattle.cany_check.specs.declared.record.MessageRecord.{MessageRecord}
 use Rattle.cany_check.specs.declared.record.SignRecord.{SignRecord}
-use Rattle.cany_check.specs.declared.record.Slots.{Slots}
+use Rattle.cany_check.specs.declared.record.FirstAndLast.{FirstAndLast}
 use Rattle.cany_check.specs.Account.{AccountParts}
 use Rattle.cany_check.specs.CheckLines.{message_fate_fields, message_line, sign_fate_fields, sign_line, slots_if_any, slots_or_dash}
 use Rattle.cany_check.specs.FateParts.{fate_texts, first_or_dash, last_if_any}
@@ -17,12 +17,12 @@ use Rattle.cany_check.specs.Fates.{message_fates, message_told, sign_fates, sign
 use Rattle.cany_check.proofs.CountFacts.{mapped_at}
 
 -- the slots of a frame, and of entries
-slots_put : (word : List ℕ) (carried slots : Option Slots) (first last until : List (List ℕ)) (since : Option ℕ) → first ≡ first_or_dash carried → last ≡ last_if_any carried
+slots_put : (word : List ℕ) (carried slots : Option FirstAndLast) (first last until : List (List ℕ)) (since : Option ℕ) → first ≡ first_or_dash carried → last ≡ last_if_any carried
     → since ≡ option_map (λ s. s.first) slots → until ≡ last_if_any slots
     → codes "carried" ∷ (first ++ (last ++ (number_if_any word since ++ (until ++ [])))) ≡ slots_or_dash (codes "carried") carried ++ slots_if_any word slots
 slots_put word carried slots first last until since a b c d = rw (a, b, c, d) (by_cases carried slots)
   where
-    by_cases : (carried slots : Option Slots) → codes "carried" ∷ (first_or_dash carried ++ (last_if_any carried ++ (number_if_any word (option_map (λ s. s.first) slots) ++ (last_if_any slots ++ []))))
+    by_cases : (carried slots : Option FirstAndLast) → codes "carried" ∷ (first_or_dash carried ++ (last_if_any carried ++ (number_if_any word (option_map (λ s. s.first) slots) ++ (last_if_any slots ++ []))))
         ≡ slots_or_dash (codes "carried") carried ++ slots_if_any word slots
     by_cases None None = refl
     by_cases None (Some s) = refl
@@ -33,7 +33,7 @@ five_and : (a b c d e rest : List (List ℕ)) → a ++ (b ++ (c ++ (d ++ (e ++ r
 five_and a b c d e rest = simp append_assoc
 
 -- a fate, and the slots after it
-fate_put : (word : List ℕ) (fate : FateFields) (fields : List (List ℕ)) (carried slots : Option Slots) (first last until : List (List ℕ)) (since : Option ℕ)
+fate_put : (word : List ℕ) (fate : FateFields) (fields : List (List ℕ)) (carried slots : Option FirstAndLast) (first last until : List (List ℕ)) (since : Option ℕ)
     → fate_texts fate ≡ fields → first ≡ first_or_dash carried → last ≡ last_if_any carried → since ≡ option_map (λ s. s.first) slots → until ≡ last_if_any slots
     → texts_of fate.first ++ (texts_of fate.second ++ (texts_of fate.third ++ (texts_of fate.fourth ++ (texts_of fate.fifth
     ++ codes "carried" ∷ (first ++ (last ++ (number_if_any word since ++ (until ++ []))))))))

@@ -36,7 +36,7 @@ use Rattle.cany_model.proofs.Rules.Services.MessageKeys.{same_message}
 use Rattle.cany_model.proofs.Rules.ProtocolFacts.{is_data}
 use Rattle.cany_model.proofs.Runs.Runs.{orderly}
 use Rattle.cany_check.specs.declared.record.MessageRecord.{MessageRecord}
-use Rattle.cany_check.specs.declared.record.Slots.{Slots}
+use Rattle.cany_check.specs.declared.record.FirstAndLast.{FirstAndLast}
 use Rattle.cany_check.specs.declared.findings.Delivery.{Delivery}
 use Rattle.cany_check.specs.Account.{AccountParts, LogParts, account_of, first_and_last, last_carried, message_record, slots_of}
 use Rattle.cany_check.specs.OneOrder.{deliveries, deliveries_from, delivery_in, difference, is_carried_from, parting, parting_of}
@@ -159,17 +159,17 @@ module _ (scenario : ScenarioParts) (journal : List Step) (few : scenario.params
         by_carried : (m : Message) → Carries (data_id m) note → is_carried_from t (message_record scenario s m) ≡ false
         by_carried m carries = by_first (first_carried (data_id m) s.trace) refl
           where
-            by_last : (first : ℕ) → first ≤ note.slot → (o : Option ℕ) → option_map_or (λ (x : Slots). nat_le t x.first) (first_and_last (Some first) o) false ≡ false
+            by_last : (first : ℕ) → first ≤ note.slot → (o : Option ℕ) → option_map_or (λ (x : FirstAndLast). nat_le t x.first) (first_and_last (Some first) o) false ≡ false
             by_last first before (Some last) = lt-leb t first (omega (arith, early, before))
             by_last first before None = refl
 
-            by_first : (o : Option ℕ) → first_carried (data_id m) s.trace ≡ o → option_map_or (λ (x : Slots). nat_le t x.first) (slots_of (data_id m) s.trace) false ≡ false
-            by_first None e = ap (λ o. option_map_or (λ (x : Slots). nat_le t x.first) (first_and_last o (last_carried (data_id m) s.trace)) false) e
+            by_first : (o : Option ℕ) → first_carried (data_id m) s.trace ≡ o → option_map_or (λ (x : FirstAndLast). nat_le t x.first) (slots_of (data_id m) s.trace) false ≡ false
+            by_first None e = ap (λ o. option_map_or (λ (x : FirstAndLast). nat_le t x.first) (first_and_last o (last_carried (data_id m) s.trace)) false) e
             by_first (Some first) e =
                 let all = first_is_first (data_id m) s.trace (run_numbered scenario.params.nodes s (orderly scenario journal)) first e in
                 let before : first ≤ note.slot =
                 Each-of (λ n. Carries (data_id m) n → first ≤ n.slot) note s.trace all (Among-from_Contains s.trace note stands) carries in
-                ap (λ o. option_map_or (λ (x : Slots). nat_le t x.first) (first_and_last o (last_carried (data_id m) s.trace)) false) e
+                ap (λ o. option_map_or (λ (x : FirstAndLast). nat_le t x.first) (first_and_last o (last_carried (data_id m) s.trace)) false) e
                 ∙ by_last first before (last_carried (data_id m) s.trace)
 
         by_find : (o : Option MessageRecord) → find (λ m. same_key m.key (message_in f)) a.messages ≡ o → keeps t (message_in f) ≡ false

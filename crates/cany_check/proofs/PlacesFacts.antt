@@ -17,7 +17,7 @@ use Rattle.cany_base.specs.Limits.{most_nodes}
 use Rattle.cany_check.specs.declared.record.MessageRecord.{MessageRecord}
 use Rattle.cany_check.specs.Account.{AccountParts}
 use Rattle.cany_check.specs.Orderly.{IsNextAfter, IsOrderly, is_of_origin}
-use Rattle.cany_check.specs.Places.{AreNumbered, AreRows, items_of, place_of, places_from}
+use Rattle.cany_check.specs.Places.{AreNumbered, AreRows, lists_of, place_of, places_from}
 use Rattle.cany_check.specs.Words.{same_key}
 
 -- ---- sequence numbers
@@ -167,27 +167,27 @@ pub copied_at : (o : Option (Bor ℕ)) (xs : List ℕ) (i : ℕ) → is_some o �
 copied_at None xs i some h = sym (slice_get_past xs i (ltb-false i (length xs) (sym some)))
 copied_at (Some x) xs i some h = ap Some h ∙ sym (slice_get-get_or xs i x.now (ltb-true i (length xs) (sym some)))
 
-pub row_items : (rows : List (Vec ℕ Global)) (i : ℕ) (row : Vec ℕ Global) → i < length rows → row ≡ slice_index_or rows i row → row.items ≡ slice_index_or (items_of rows) i []
+pub row_items : (rows : List (Vec ℕ Global)) (i : ℕ) (row : Vec ℕ Global) → i < length rows → row ≡ slice_index_or rows i row → row.items ≡ slice_index_or (lists_of rows) i []
 row_items rows i row within is = ap (λ (r : Vec ℕ Global). r.items) is ∙ sym (get_or-map (λ (r : Vec ℕ Global). r.items) rows i row [] within)
 
 -- one place more in one of them
 pub row_set : (rows : List (Vec ℕ Global)) (at place : ℕ) (old new : Vec ℕ Global) → at < length rows → old ≡ slice_index_or rows at old → new.items ≡ old.items ++ place ∷ []
-    → (o : ℕ) → slice_index_or (items_of (slice_set rows at new)) o [] ≡ (if o == at then slice_index_or (items_of rows) o [] ++ place ∷ [] else slice_index_or (items_of rows) o [])
+    → (o : ℕ) → slice_index_or (lists_of (slice_set rows at new)) o [] ≡ (if o == at then slice_index_or (lists_of rows) o [] ++ place ∷ [] else slice_index_or (lists_of rows) o [])
 row_set rows at place old new within is more o =
-    let sets : items_of (slice_set rows at new) ≡ slice_set (items_of rows) at new.items = map-set (λ (r : Vec ℕ Global). r.items) rows at new in
+    let sets : lists_of (slice_set rows at new) ≡ slice_set (lists_of rows) at new.items = map-set (λ (r : Vec ℕ Global). r.items) rows at new in
     elim (cases_eq o at) [
       | inl same ↦
           let test : (o == at) ≡ true = eq-eqb o at same in
-          let here : slice_index_or (items_of rows) o [] ≡ old.items = ap (λ k. slice_index_or (items_of rows) k []) same ∙ sym (row_items rows at old within is) in
-          let inside : at < length (items_of rows) = omega (arith, length-map rows (λ (r : Vec ℕ Global). r.items)) in
-          let there : slice_index_or (slice_set (items_of rows) at new.items) o [] ≡ new.items =
-          ap (λ k. slice_index_or (slice_set (items_of rows) at new.items) k []) same ∙ get_or-set_same (items_of rows) at new.items [] inside in
+          let here : slice_index_or (lists_of rows) o [] ≡ old.items = ap (λ k. slice_index_or (lists_of rows) k []) same ∙ sym (row_items rows at old within is) in
+          let inside : at < length (lists_of rows) = omega (arith, length-map rows (λ (r : Vec ℕ Global). r.items)) in
+          let there : slice_index_or (slice_set (lists_of rows) at new.items) o [] ≡ new.items =
+          ap (λ k. slice_index_or (slice_set (lists_of rows) at new.items) k []) same ∙ get_or-set_same (lists_of rows) at new.items [] inside in
           ap (λ l. slice_index_or l o []) sets ∙ there ∙ more ∙ ap (λ l. l ++ place ∷ []) (sym here)
-          ∙ ap (λ b. if b then slice_index_or (items_of rows) o [] ++ place ∷ [] else slice_index_or (items_of rows) o []) (sym test)
+          ∙ ap (λ b. if b then slice_index_or (lists_of rows) o [] ++ place ∷ [] else slice_index_or (lists_of rows) o []) (sym test)
       | inr other ↦
           let test : (o == at) ≡ false = ne_eqb o at other in
-          ap (λ l. slice_index_or l o []) sets ∙ get_or-set_other (items_of rows) at o new.items [] other
-          ∙ ap (λ b. if b then slice_index_or (items_of rows) o [] ++ place ∷ [] else slice_index_or (items_of rows) o []) (sym test)
+          ap (λ l. slice_index_or l o []) sets ∙ get_or-set_other (lists_of rows) at o new.items [] other
+          ∙ ap (λ b. if b then slice_index_or (lists_of rows) o [] ++ place ∷ [] else slice_index_or (lists_of rows) o []) (sym test)
     ]
 
 pub no_rows : (rows : List (List ℕ)) → rows ≡ replicate most_nodes [] → AreRows [] rows

@@ -22,7 +22,7 @@ use Rattle.cany_model.specs.Runs.Incarnations.{incarnation_of}
 use Rattle.cany_world.specs.Settled.{nodes_ahead, waiting_nodes}
 use Rattle.cany_check.specs.declared.record.MessageRecord.{MessageRecord}
 use Rattle.cany_check.specs.declared.record.SignRecord.{SignRecord}
-use Rattle.cany_check.specs.declared.record.Slots.{Slots}
+use Rattle.cany_check.specs.declared.record.FirstAndLast.{FirstAndLast}
 use Rattle.cany_check.specs.declared.findings.Accusation.{Accusation}
 use Rattle.cany_check.specs.declared.findings.Delivery.{Delivery}
 use Rattle.cany_check.specs.declared.findings.EntryAt.{EntryAt}
@@ -59,7 +59,7 @@ three slots sends rules = scenario_of (default_parameters 3 slots) 7 sends rules
 -- a message and a sign of the account, with what is told of each
 pub record MessageFound : Type 0 where
   pub sent : Option ℕ
-  pub carried : Option Slots
+  pub carried : Option FirstAndLast
   pub queued : Bool
   pub waits : Nodes
   pub ahead : Nodes
@@ -149,14 +149,14 @@ all_held = record {
   unused = [];
 }
 
-abbrev pub slots : ℕ → ℕ → Option Slots
+abbrev pub slots : ℕ → ℕ → Option FirstAndLast
 slots first last = Some (record { first = first; last = last })
 
-abbrev pub tells : Fate → (has lacks had : ℕ) → Option Slots → Told
+abbrev pub tells : Fate → (has lacks had : ℕ) → Option FirstAndLast → Told
 tells fate has lacks had slots = record { fate = fate; has = set has; lacks = set lacks; had = set had; slots = slots }
 
 -- a message that is settled, and one that some nodes have ahead
-abbrev pub settled : ℕ → Option Slots → Told → MessageFound
+abbrev pub settled : ℕ → Option FirstAndLast → Told → MessageFound
 settled sent carried told = record { sent = Some sent; carried = carried; queued = false; waits = set 0; ahead = set 0; told = told }
 
 abbrev pub never_sent : Told → MessageFound

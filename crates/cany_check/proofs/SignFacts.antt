@@ -14,14 +14,14 @@ use Rattle.std.proofs.lemmas.Option.{get_or_from_slice_get, slice_get-get_or, sl
 use Rattle.cany_base.specs.Nodes.{Nodes, minus, nobody, is_nobody}
 use Rattle.cany_check.specs.declared.holders.Holders.{Holders}
 use Rattle.cany_check.specs.declared.record.SignRecord.{SignRecord}
-use Rattle.cany_check.specs.declared.record.Slots.{Slots}
+use Rattle.cany_check.specs.declared.record.FirstAndLast.{FirstAndLast}
 use Rattle.cany_model.specs.Rules.Knowledge.{FailureSign}
 use Rattle.cany_check.specs.Account.{AccountParts, LogParts, is_sign_before, running, sign_in}
 use Rattle.cany_check.specs.Fates.{sign_fate, sign_fate_by, sign_has, sign_lacks, sign_told, slots_where}
 use Rattle.cany_check.specs.Holders.{AreHolders, IsOnly, counts_since, holders_in}
 use Rattle.cany_check.specs.InOrder.{ascending, put_once}
 use Rattle.cany_check.specs.Orderly.{IsOrderly, sign_named}
-use Rattle.cany_check.specs.SignSubjects.{DoAscend, names_at, sign_since, since_at, tells_at}
+use Rattle.cany_check.specs.SignSubjects.{DoAscend, names_at, sign_since, sign_since_at, tells_at}
 use Rattle.cany_check.specs.Words.{counting_for_sign, counts_for_sign, knows, nodes_of, takes_part, takes_part_for, tells_sign}
 use Rattle.cany_check.proofs.HolderFacts.{both_tests, held_at, lacking_nodes, one_runs_of}
 
@@ -216,7 +216,7 @@ module _ (a : AccountParts) (orderly : IsOrderly a) (sign : SignRecord) (holders
   as_counted : (x : LogParts) → counts_since (sign_since sign) x ≡ counts_for_sign sign x
   as_counted x = by_slots sign.carried
     where
-      by_slots : (o : Option Slots) → (x.runs && option_map_or (λ slot. takes_part slot x) (option_map (λ slots. slots.first) o) true) ≡ (x.runs && option_map_or (λ slots. takes_part slots.first x) o true)
+      by_slots : (o : Option FirstAndLast) → (x.runs && option_map_or (λ slot. takes_part slot x) (option_map (λ slots. slots.first) o) true) ≡ (x.runs && option_map_or (λ slots. takes_part slots.first x) o true)
       by_slots None = refl
       by_slots (Some slots) = refl
 
@@ -250,9 +250,9 @@ module _ (a : AccountParts) (orderly : IsOrderly a) (sign : SignRecord) (holders
 
 -- the holders of the sign at a place
 pub holders_of_one : (a : AccountParts) (signs : List SignRecord) (holders : List Holders) (i : ℕ) (x : SignRecord) (h : Holders) → signs ≡ a.signs
-    → AreHolders (length a.signs) (tells_at a.signs) (since_at a.signs) a.logs holders → i < length signs → x ≡ slice_index_or signs i x → h ≡ slice_index_or holders i h
+    → AreHolders (length a.signs) (tells_at a.signs) (sign_since_at a.signs) a.logs holders → i < length signs → x ≡ slice_index_or signs i x → h ≡ slice_index_or holders i h
     → h ≡ holders_in (tells_sign x) (sign_since x) a.logs
 holders_of_one a signs holders i x h is are below x_is h_is =
     let own : Option SignRecord → Holders = λ o. holders_in (λ e. option_map_or (λ y. tells_sign y e) o false) (option_and_then sign_since o) a.logs in
     let at : slice_get a.signs i ≡ Some x = ap (λ (l : List SignRecord). slice_get l i) (sym is) ∙ slice_get_read signs (length signs) i x refl below x_is in
-    held_at (length a.signs) (tells_at a.signs) (since_at a.signs) a.logs holders i h are (subst (λ (l : List SignRecord). i < length l) is below) h_is ∙ ap own at
+    held_at (length a.signs) (tells_at a.signs) (sign_since_at a.signs) a.logs holders i h are (subst (λ (l : List SignRecord). i < length l) is below) h_is ∙ ap own at

@@ -16,7 +16,7 @@ use Rattle.cany_check.specs.declared.record.LogRecord.{LogRecord}
 use Rattle.cany_check.specs.Account.{AccountParts, LogParts, running}
 use Rattle.cany_check.specs.AccountFields.{log_parts}
 use Rattle.cany_check.specs.InOrder.{ascending, put_once}
-use Rattle.cany_check.specs.ViewRows.{HasRows, has_other_members, of_number, parting_of, row_of, views_in, with_view}
+use Rattle.cany_check.specs.ViewRows.{HasRows, has_other_members, of_number, row_parting, row_of, views_in, with_view}
 use Rattle.cany_check.specs.Views.{HeldView, as_parting, held_views, parting_in, same_members, view_in, view_numbers, view_partings, views_of_number}
 
 -- ---- one row
@@ -61,16 +61,16 @@ row_more (u ∷ views) v = by_find (find (has_other_members u) views) refl
     by_find (Some w) e =
         more (Some w) e ∙ stays w (found_passes (has_other_members u) views w e) ∙ ap (λ p. with_view (Some (as_parting u (unwrap_or p u))) v) (sym e)
 
-pub row_parts : (views : List HeldView) → parting_of (row_of views) ≡ parting_in views
+pub row_parts : (views : List HeldView) → row_parting (row_of views) ≡ parting_in views
 row_parts [] = refl
 row_parts (u ∷ views) = by_find (find (has_other_members u) views) refl
   where
-    by_find : (o : Option HeldView) → find (has_other_members u) views ≡ o → parting_of (row_of (u ∷ views)) ≡ parting_in (u ∷ views)
-    by_find None e = ap (λ p. parting_of (Some (as_parting u (unwrap_or p u)))) e ∙ rw (same_self u.members) refl ∙ ap (option_map (as_parting u)) (sym e)
+    by_find : (o : Option HeldView) → find (has_other_members u) views ≡ o → row_parting (row_of (u ∷ views)) ≡ parting_in (u ∷ views)
+    by_find None e = ap (λ p. row_parting (Some (as_parting u (unwrap_or p u)))) e ∙ rw (same_self u.members) refl ∙ ap (option_map (as_parting u)) (sym e)
     by_find (Some w) e =
-        ap (λ p. parting_of (Some (as_parting u (unwrap_or p u)))) e ∙ apart w (found_passes (has_other_members u) views w e) ∙ ap (option_map (as_parting u)) (sym e)
+        ap (λ p. row_parting (Some (as_parting u (unwrap_or p u)))) e ∙ apart w (found_passes (has_other_members u) views w e) ∙ ap (option_map (as_parting u)) (sym e)
       where
-        apart : (x : HeldView) → has_other_members u x ≡ true → parting_of (Some (as_parting u x)) ≡ Some (as_parting u x)
+        apart : (x : HeldView) → has_other_members u x ≡ true → row_parting (Some (as_parting u x)) ≡ Some (as_parting u x)
         apart x other = rw other refl
 
 -- ---- the table
@@ -132,10 +132,10 @@ module _ (logs : List LogRecord) (i : ℕ) (d : LogRecord) (within : i < length 
 
 -- the partings of a row more
 pub partings_more : (found : List ViewParting) (rows : List (Option ViewParting)) (i : ℕ) (d : Option ViewParting) → i < length rows
-    → (found ++ cons_option (parting_of (get_or rows i d)) []) ++ filter_map parting_of (drop (i + 1) rows) ≡ found ++ filter_map parting_of (drop i rows)
+    → (found ++ cons_option (row_parting (get_or rows i d)) []) ++ filter_map row_parting (drop (i + 1) rows) ≡ found ++ filter_map row_parting (drop i rows)
 partings_more found rows i d within =
-    append_assoc found (cons_option (parting_of row) []) (filter_map parting_of (drop (i + 1) rows))
-    ∙ ap (λ l. found ++ l) (one (parting_of row) (filter_map parting_of (drop (i + 1) rows)) ∙ ap (filter_map parting_of) (sym (drop_more rows i d within)))
+    append_assoc found (cons_option (row_parting row) []) (filter_map row_parting (drop (i + 1) rows))
+    ∙ ap (λ l. found ++ l) (one (row_parting row) (filter_map row_parting (drop (i + 1) rows)) ∙ ap (filter_map row_parting) (sym (drop_more rows i d within)))
   where
     row : Option ViewParting
     row = get_or rows i d
@@ -263,14 +263,14 @@ module _ (a : AccountParts) (rows : List (Option ViewParting)) (has : HasRows (h
       sym (length-filter is_some rows) ∙ ap (λ (l : List (Option ViewParting)). length (filter is_some l)) rows_are ∙ filtered_map is_some row_at places
       ∙ ap length (filter_same (λ k. is_some (row_at k)) is_number places (λ k. is_held k (held_views a))) ∙ ap length (sym numbers_by_place)
 
-  by_numbers : (ks : List ℕ) → filter_map parting_of (map row_at ks) ≡ filter_map (λ k. parting_in (views_of_number a k)) (filter is_number ks)
+  by_numbers : (ks : List ℕ) → filter_map row_parting (map row_at ks) ≡ filter_map (λ k. parting_in (views_of_number a k)) (filter is_number ks)
   by_numbers [] = refl
   by_numbers (k ∷ ks) =
-      ap (λ o. cons_option o (filter_map parting_of (map row_at ks))) (row_parts (of_number k (held_views a)))
+      ap (λ o. cons_option o (filter_map row_parting (map row_at ks))) (row_parts (of_number k (held_views a)))
       ∙ ap (cons_option (parting_in (views_of_number a k))) (by_numbers ks)
       ∙ one (cases_Bool (is_number k))
     where
-      no_parting : (o : Option ViewParting) → is_some o ≡ false → parting_of o ≡ None
+      no_parting : (o : Option ViewParting) → is_some o ≡ false → row_parting o ≡ None
       no_parting None e = refl
       no_parting (Some p) e = absurd (false≢true (sym e))
 
@@ -282,8 +282,8 @@ module _ (a : AccountParts) (rows : List (Option ViewParting)) (has : HasRows (h
           rw none (ap (λ o. cons_option o (filter_map (λ n. parting_in (views_of_number a n)) (filter is_number ks)))
           (sym (row_parts (of_number k (held_views a))) ∙ no_parting (row_at k) (is_held k (held_views a) ∙ none)))
 
-  pub partings_are : filter_map parting_of rows ≡ view_partings a
-  partings_are = ap (filter_map parting_of) rows_are ∙ by_numbers places ∙ ap (filter_map (λ k. parting_in (views_of_number a k))) (sym numbers_by_place)
+  pub partings_are : filter_map row_parting rows ≡ view_partings a
+  partings_are = ap (filter_map row_parting) rows_are ∙ by_numbers places ∙ ap (filter_map (λ k. parting_in (views_of_number a k))) (sym numbers_by_place)
 
 -- one more is found, where there is one
 pub one_found : {X : Type 0} (so_far later : List X) (o : Option X) → (so_far ++ cons_option o []) ++ later ≡ so_far ++ cons_option o later

@@ -20,7 +20,7 @@ use Rattle.cany_world.specs.Incarnations.{takes_part_since}
 use Rattle.cany_world.specs.Settled.{is_queued, nodes_ahead, waiting_nodes}
 use Rattle.cany_check.specs.declared.record.MessageRecord.{MessageRecord}
 use Rattle.cany_check.specs.declared.record.SignRecord.{SignRecord}
-use Rattle.cany_check.specs.declared.record.Slots.{Slots}
+use Rattle.cany_check.specs.declared.record.FirstAndLast.{FirstAndLast}
 use Rattle.cany_check.specs.InOrder.{ascending}
 
 -- the log of an incarnation: its node, the slot since which it takes part, whether it is the
@@ -50,13 +50,13 @@ unfoldable pub last_carried : Identity → List SlotNote → Option ℕ
 last_carried x [] = None
 last_carried x (note ∷ before) = if carried (is_of x) note then Some note.slot else last_carried x before
 
-abbrev pub first_and_last : Option ℕ → Option ℕ → Option Slots
+abbrev pub first_and_last : Option ℕ → Option ℕ → Option FirstAndLast
 first_and_last (Some first) (Some last) = Some (record { first = first; last = last })
 first_and_last (Some first) None = None
 first_and_last None last = None
 
 -- the first and the last slot that carried a frame of this identity, with whatever verdict
-abbrev pub slots_of : Identity → List SlotNote → Option Slots
+abbrev pub slots_of : Identity → List SlotNote → Option FirstAndLast
 slots_of x trace = first_and_last (first_carried x trace) (last_carried x trace)
 
 -- ---- messages

@@ -14,7 +14,7 @@ use Rattle.cany_base.specs.Scenario.{ScenarioParts}
 use Rattle.cany_model.specs.Bus.Frames.{Identity, same_identity}
 use Rattle.cany_model.specs.Bus.Slot.{attempts}
 use Rattle.cany_world.specs.World.{WorldParts, state_of}
-use Rattle.cany_check.specs.declared.attempts.Attempts.{Attempts}
+use Rattle.cany_check.specs.declared.attempts.AttemptSlots.{AttemptSlots}
 use Rattle.can_fault.specs.declared.identity.Attempt.{Attempt}
 use Rattle.can_fault.specs.declared.identity.FrameIdentity.{FrameIdentity}
 use Rattle.can_fault.specs.Identities.{attempt_cmp, attempt_of, frame_identity, identity_cmp}
@@ -30,11 +30,11 @@ abbrev pub slot_of : List (Attempt × ℕ) → Identity → ℕ → Option ℕ
 slot_of slots x nth = lookup (is_at (attempt_cmp (attempt_of x nth))) slots
 
 -- the greatest count: there a count stands still
-abbrev pub greatest : ℕ
-greatest = 2 ^ 64 - 1
+abbrev pub greatest_count : ℕ
+greatest_count = 2 ^ 64 - 1
 
 abbrev pub raised : ℕ → ℕ
-raised count = min (count + 1) greatest
+raised count = min (count + 1) greatest_count
 
 -- ---- which frames are named
 
@@ -62,10 +62,10 @@ abbrev pub AreZero : (Identity → Bool) → List (FrameIdentity × ℕ) → Typ
 AreZero named counts = (x : Identity) → named x ≡ true → count_of counts x ≡ Some 0
 
 -- the attempts to carry the frames that pass the test are those of these slots, newest first
-pub record AreAttempts (named : Identity → Bool) (trace : List SlotNote) (kept : Attempts) : Type 0 where
+pub record AreAttempts (named : Identity → Bool) (trace : List SlotNote) (kept : AttemptSlots) : Type 0 where
   pub counted : (x : Identity) → named x ≡ true → count_of kept.counts.entries x ≡ Some (attempts x trace)
   pub placed : (x : Identity) → named x ≡ true → (nth : ℕ) → slot_of kept.slots.entries x nth ≡ attempt_slot x nth trace
 
 -- the attempts in the slots of a run, to carry the frames that its scenario names
-abbrev pub AreAttemptsOf : WorldParts → Attempts → Type 0
+abbrev pub AreAttemptsOf : WorldParts → AttemptSlots → Type 0
 AreAttemptsOf world kept = AreAttempts (is_named world.scenario) (state_of world).trace kept

@@ -20,7 +20,7 @@ use Rattle.cany_check.specs.declared.findings.Told.{Told}
 use Rattle.cany_check.specs.declared.findings.ViewParting.{ViewParting}
 use Rattle.cany_check.specs.declared.record.MessageRecord.{MessageRecord}
 use Rattle.cany_check.specs.declared.record.SignRecord.{SignRecord}
-use Rattle.cany_check.specs.declared.record.Slots.{Slots}
+use Rattle.cany_check.specs.declared.record.FirstAndLast.{FirstAndLast}
 use Rattle.cany_check.specs.declared.unused_entry.NoAsk.{NoAsk}
 use Rattle.cany_check.specs.declared.unused_entry.NoAsk.TheVariants.{From, Stopped, NeverCarried}
 use Rattle.cany_check.specs.declared.unused_entry.NoFault.{NoFault}
@@ -35,19 +35,19 @@ abbrev pub text_if : Bool → List ℕ → List (List ℕ)
 text_if test text = if test then text ∷ [] else []
 
 -- the word and the first and the last slot, where there are any
-abbrev pub slots_if_any : List ℕ → Option Slots → List (List ℕ)
+abbrev pub slots_if_any : List ℕ → Option FirstAndLast → List (List ℕ)
 slots_if_any word None = []
 slots_if_any word (Some slots) = word ∷ decimal slots.first ∷ decimal slots.last ∷ []
 
 -- the word, and either these slots or a dash
-abbrev pub slots_or_dash : List ℕ → Option Slots → List (List ℕ)
+abbrev pub slots_or_dash : List ℕ → Option FirstAndLast → List (List ℕ)
 slots_or_dash word None = word ∷ codes "-" ∷ []
 slots_or_dash word (Some slots) = word ∷ decimal slots.first ∷ decimal slots.last ∷ []
 
 -- ---- messages
 
--- how long the protocol of the service waits, at most, between a copy of a message and a timer or a
--- closing of it
+-- how long the protocol of the service waits, at most, between a copy of a message and a closing of
+-- it by TOTCAN, or its timer by RELCAN; nobody has a message of EDCAN ahead
 abbrev pub wait : Parameters → Service → ℕ
 wait p by = if is_service by Tot then p.bound else p.confirm
 

@@ -2,7 +2,7 @@
 use Rattle.std.specs.Prelude.{ℕ, ◌+◌, List, [], ◌∷◌, ◌++◌, Option, Some, None, codes, decimal}
 use Rattle.cany_log.specs.Fields.{most_bytes, texts_of}
 use Rattle.cany_check.specs.declared.fate_fields.FateFields.{FateFields}
-use Rattle.cany_check.specs.declared.record.Slots.{Slots}
+use Rattle.cany_check.specs.declared.record.FirstAndLast.{FirstAndLast}
 
 abbrev pub fate_texts : FateFields → List (List ℕ)
 fate_texts f = texts_of f.first ++ (texts_of f.second ++ (texts_of f.third ++ (texts_of f.fourth ++ texts_of f.fifth)))
@@ -14,10 +14,10 @@ fate_room f = most_bytes f.first + most_bytes f.second + most_bytes f.third + mo
 abbrev pub most_fate_bytes : ℕ
 most_fate_bytes = 500
 
-abbrev pub first_or_dash : Option Slots → List (List ℕ)
+abbrev pub first_or_dash : Option FirstAndLast → List (List ℕ)
 first_or_dash None = codes "-" ∷ []
 first_or_dash (Some slots) = decimal slots.first ∷ []
 
-abbrev pub last_if_any : Option Slots → List (List ℕ)
+abbrev pub last_if_any : Option FirstAndLast → List (List ℕ)
 last_if_any None = []
 last_if_any (Some slots) = decimal slots.last ∷ []

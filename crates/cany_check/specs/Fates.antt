@@ -5,7 +5,7 @@ use Rattle.cany_base.specs.declared.log_entry.LogEntry.{LogEntry}
 use Rattle.cany_base.specs.Nodes.{Nodes, has, nobody, is_nobody}
 use Rattle.cany_check.specs.declared.record.MessageRecord.{MessageRecord}
 use Rattle.cany_check.specs.declared.record.SignRecord.{SignRecord}
-use Rattle.cany_check.specs.declared.record.Slots.{Slots}
+use Rattle.cany_check.specs.declared.record.FirstAndLast.{FirstAndLast}
 use Rattle.cany_check.specs.declared.findings.Fate.{Fate}
 use Rattle.cany_check.specs.declared.findings.Fate.TheVariants.{All, Nobody, Apart, Open}
 use Rattle.cany_check.specs.declared.findings.Told.{Told}
@@ -15,16 +15,16 @@ use Rattle.cany_check.specs.Words.{counting, counting_for_sign, delivers, entry_
 -- ---- slots of entries
 
 -- these slots, and one more
-abbrev pub with_slot : Option Slots → ℕ → Option Slots
+abbrev pub with_slot : Option FirstAndLast → ℕ → Option FirstAndLast
 with_slot None slot = Some (record { first = slot; last = slot })
 with_slot (Some slots) slot = Some (record { first = min slot slots.first; last = max slot slots.last })
 
 -- the least and the greatest
-unfoldable pub least_and_greatest : List ℕ → Option Slots
+unfoldable pub least_and_greatest : List ℕ → Option FirstAndLast
 least_and_greatest slots = fold with_slot None slots
 
 -- those of the entries of these logs that pass a test
-abbrev pub slots_where : (LogEntry → Bool) → List LogParts → Option Slots
+abbrev pub slots_where : (LogEntry → Bool) → List LogParts → Option FirstAndLast
 slots_where test logs = least_and_greatest (flat_map (λ log. map entry_slot (filter test log.entries)) logs)
 
 -- ---- a message

@@ -26,7 +26,7 @@ abbrev pub service_texts : Option Service → List (List ℕ)
 service_texts None = []
 service_texts (Some by) = service_name by ∷ []
 
-abbrev pub fate_texts : FateCounts → List (List ℕ)
-fate_texts counts =
+abbrev pub fate_count_texts : FateCounts → List (List ℕ)
+fate_count_texts counts =
     codes "all" ∷ decimal counts.all ∷ codes "none" ∷ decimal counts.nobody
     ∷ codes "apart" ∷ decimal counts.apart ∷ codes "open" ∷ decimal counts.unsettled ∷ []

@@ -50,8 +50,8 @@ since_ever k = None
 -- ---- one entry after another
 
 -- the log, with these entries alone
-abbrev pub cut : LogParts → List LogEntry → LogParts
-cut log entries = record { node = log.node; from = log.from; runs = log.runs; entries = entries }
+abbrev pub log_with : LogParts → List LogEntry → LogParts
+log_with log entries = record { node = log.node; from = log.from; runs = log.runs; entries = entries }
 
 -- with one more entry of the log, which tells of it
 abbrev pub with_entry : Holders → Option ℕ → LogParts → ℕ → Holders

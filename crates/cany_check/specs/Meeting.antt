@@ -1,12 +1,12 @@
 -- One node is compared with the list of reference, an item after another.
-use Rattle.std.specs.Prelude.{◌≡◌, ◌≤◌, ℕ, List, ◌++◌, drop, length, Some, option_map, option_to_list}
+use Rattle.std.specs.Prelude.{◌≡◌, ◌≤◌, ℕ, List, ◌++◌, drop, length, Option, Some, option_map, option_to_list}
 use Rattle.cany_base.specs.declared.log_entry.LogEntry.{LogEntry}
 use Rattle.cany_check.specs.declared.findings.Parting.{Parting}
 use Rattle.cany_check.specs.declared.order.Cursor.{Cursor}
 use Rattle.cany_check.specs.declared.order.Item.{Item}
 use Rattle.cany_check.specs.declared.record.MessageRecord.{MessageRecord}
 use Rattle.cany_check.specs.Account.{LogParts}
-use Rattle.cany_check.specs.Reference.{clash, cut, item_in, parting_at}
+use Rattle.cany_check.specs.Reference.{Clash, clash, cut, item_in, parting_at}
 
 -- what an entry of the log delivers, if it counts
 abbrev pub entry_items : List MessageRecord → LogParts → LogEntry → List Item
@@ -16,14 +16,34 @@ entry_items messages log entry = cut log.from (option_to_list (item_in messages 
 abbrev pub ahead : ℕ → Cursor → List Item → List Item
 ahead from cursor reference = cut from (drop cursor.next reference)
 
--- After these items the comparison goes on: with whatever follows it comes to the same difference,
--- and to the same list.
+-- A comparison under way: how many items of the node were compared, what of the list is left to
+-- compare, and the list.
+pub record Comparison : Type 0 where
+  pub compared : ℕ
+  pub left : List Item
+  pub list : List Item
+
+-- as a cursor has it, of a node that takes part since this slot
+abbrev pub comparison_at : ℕ → Cursor → List Item → Comparison
+comparison_at from cursor list = record { compared = cursor.place; left = ahead from cursor list; list = list }
+
+-- where the items that the node has next differ from what is left
+abbrev pub clash_with : List Item → Comparison → Option Clash
+clash_with items c = clash c.compared c.left items
+
+-- the list, with what of these items goes beyond it
+abbrev pub list_with : List Item → Comparison → List Item
+list_with items c = c.list ++ drop (length c.left) items
+
+-- These items were compared first, and that changed neither the clash nor the list: with whatever
+-- follows they are those of the items and what follows together.
 pub record GoesOn (from : ℕ) (items : List Item) (old new : Cursor) (before after : List Item) : Type 0 where
   pub within : new.next ≤ length after
   pub behind : new.place ≤ new.next
-  pub clash_is : (rest : List Item) → clash new.place (ahead from new after) rest ≡ clash old.place (ahead from old before) (items ++ rest)
-  pub list_is : (rest : List Item) → after ++ drop (length (ahead from new after)) rest ≡ before ++ drop (length (ahead from old before)) (items ++ rest)
+  pub clash_is : (rest : List Item) → clash_with rest (comparison_at from new after) ≡ clash_with (items ++ rest) (comparison_at from old before)
+  pub list_is : (rest : List Item) → list_with rest (comparison_at from new after) ≡ list_with (items ++ rest) (comparison_at from old before)
 
--- these items differ from the list, whatever follows
+-- these items differ from what is left of the list, whatever follows
 abbrev pub ClashesBy : ℕ → List Item → Cursor → List Item → Parting → Type 0
-ClashesBy from items cursor before p = (rest : List Item) → option_map parting_at (clash cursor.place (ahead from cursor before) (items ++ rest)) ≡ Some p
+ClashesBy from items cursor before p =
+    (rest : List Item) → option_map parting_at (clash_with (items ++ rest) (comparison_at from cursor before)) ≡ Some p

@@ -4,7 +4,7 @@ use Rattle.cany_base.specs.Limits.{most_nodes, most_sends}
 use Rattle.cany_model.specs.Rules.Knowledge.{FailureSign}
 use Rattle.cany_check.specs.declared.record.MessageRecord.{MessageRecord}
 use Rattle.cany_check.specs.declared.record.SignRecord.{SignRecord}
-use Rattle.cany_check.specs.declared.record.Slots.{Slots}
+use Rattle.cany_check.specs.declared.record.FirstAndLast.{FirstAndLast}
 use Rattle.cany_check.specs.Account.{AccountParts, LogParts, signs_told}
 use Rattle.cany_check.specs.Words.{entry_slot}
 
@@ -15,7 +15,7 @@ abbrev pub IsSmallSlot : Option ℕ → Type 0
 IsSmallSlot None = Unit {0}
 IsSmallSlot (Some slot) = slot < most_slot
 
-abbrev pub AreSmallSlots : Option Slots → Type 0
+abbrev pub AreSmallSlots : Option FirstAndLast → Type 0
 AreSmallSlots None = Unit {0}
 AreSmallSlots (Some slots) = (slots.first < most_slot) × (slots.last < most_slot)
 

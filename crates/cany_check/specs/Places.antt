@@ -24,8 +24,8 @@ places_from origin place [] = []
 places_from origin place (m ∷ messages) =
     if is_of_origin origin m then place ∷ places_from origin (place + 1) messages else places_from origin (place + 1) messages
 
-abbrev pub items_of : List (Vec ℕ Global) → List (List ℕ)
-items_of rows = map (λ row. row.items) rows
+abbrev pub lists_of : List (Vec ℕ Global) → List (List ℕ)
+lists_of rows = map (λ row. row.items) rows
 
 -- there is a row for each origin, and it has the places of its messages
 pub record AreRows (messages : List MessageRecord) (rows : List (List ℕ)) : Type 0 where

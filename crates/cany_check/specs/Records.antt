@@ -17,11 +17,11 @@ use Rattle.cany_world.specs.Settled.{waiting_nodes}
 use Rattle.cany_check.specs.declared.message_slots.MessageSlots.{MessageSlots}
 use Rattle.cany_check.specs.declared.record.MessageRecord.{MessageRecord}
 use Rattle.cany_check.specs.declared.record.SignRecord.{SignRecord}
-use Rattle.cany_check.specs.declared.record.Slots.{Slots}
+use Rattle.cany_check.specs.declared.record.FirstAndLast.{FirstAndLast}
 use Rattle.cany_check.specs.Account.{LogParts, first_where, running, sign_in, slots_of}
 
 -- these slots, and a later one
-abbrev pub with_last : Option Slots → ℕ → Option Slots
+abbrev pub with_last : Option FirstAndLast → ℕ → Option FirstAndLast
 with_last None slot = Some (record { first = slot; last = slot })
 with_last (Some slots) slot = Some (record { first = slots.first; last = slot })
 

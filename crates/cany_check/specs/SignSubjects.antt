@@ -26,5 +26,5 @@ abbrev pub tells_at : List SignRecord → ℕ → LogEntry → Bool
 tells_at signs place entry = option_map_or (λ sign. tells_sign sign entry) (slice_get signs place) false
 
 -- the slot since which a node has to take part to count for it
-abbrev pub since_at : List SignRecord → ℕ → Option ℕ
-since_at signs place = option_and_then sign_since (slice_get signs place)
+abbrev pub sign_since_at : List SignRecord → ℕ → Option ℕ
+sign_since_at signs place = option_and_then sign_since (slice_get signs place)

@@ -105,13 +105,21 @@ is_receiver s note i = ran_in s note.slot i && not (has note.senders i)
 abbrev pub some_node_of : Nodes → (ℕ → Bool) → Bool
 some_node_of nodes test = list_any (λ i. has nodes i && test i) (range_with_len 0 most_nodes)
 
+-- whether a verdict that is not Clean meets a slot that carried nothing
+abbrev pub hits_idle_slot : Verdict → Option SlotNote → Bool
+hits_idle_slot verdict note = not (is_clean verdict) && is_idle note
+
+-- whether it rejects nodes, and none of them was a receiver of the frame that the slot carried
+abbrev pub rejects_no_receiver : RunState → Verdict → Option SlotNote → Bool
+rejects_no_receiver s verdict None = false
+rejects_no_receiver s verdict (Some note) =
+    is_some note.frame && not (is_nobody (reject_set verdict)) && not (some_node_of (reject_set verdict) (is_receiver s note))
+
 -- why the verdict of a rule that acts in this slot had no effect, where it had none
 abbrev pub unused_verdict : RunState → ℕ → Verdict → Option SlotNote → List NoFault
 unused_verdict s slot verdict note =
-    if not (is_clean verdict) && is_idle note then Idle slot ∷ []
-    else if not (is_nobody (reject_set verdict)) && not (is_idle note)
-    && not (some_node_of (reject_set verdict) (λ i. option_map_or (λ n. is_receiver s n i) note false))
-    then RejectsNobody slot ∷ []
+    if hits_idle_slot verdict note then Idle slot ∷ []
+    else if rejects_no_receiver s verdict note then RejectsNobody slot ∷ []
     else []
 
 -- and why its stops had none

@@ -22,13 +22,13 @@ abbrev pub row_of : List HeldView → Option ViewParting
 row_of [] = None
 row_of (v ∷ views) = Some (as_parting v (unwrap_or (find (has_other_members v) views) v))
 
-abbrev pub is_apart : ViewParting → Bool
-is_apart row = not (same_members row.members row.others)
+abbrev pub views_differ : ViewParting → Bool
+views_differ row = not (same_members row.members row.others)
 
 -- with one more view
 abbrev pub with_other : ViewParting → ℕ → Nodes → ViewParting
 with_other row node members =
-    if is_apart row then row
+    if views_differ row then row
     else if same_members row.members members then row
     else record { number = row.number; first = row.first; members = row.members; second = node; others = members }
 
@@ -37,9 +37,9 @@ with_view None v = Some (as_parting v v)
 with_view (Some row) v = Some (with_other row v.node v.members)
 
 -- where the views of a row part
-abbrev pub parting_of : Option ViewParting → Option ViewParting
-parting_of None = None
-parting_of (Some row) = if is_apart row then Some row else None
+abbrev pub row_parting : Option ViewParting → Option ViewParting
+row_parting None = None
+row_parting (Some row) = if views_differ row then Some row else None
 
 -- at each number the table has the row of the views of that number
 pub record HasRows (views : List HeldView) (rows : List (Option ViewParting)) : Type 0 where

@@ -19,17 +19,17 @@ use std::collections::BTreeMap;
 /// How often each frame that a rule, a join or a leave of a scenario names was carried, and in
 /// which slots.
 #[derive(Drop)]
-pub(crate) struct Attempts {
+pub(crate) struct AttemptSlots {
     counts: BTreeMap<FrameIdentity, u64>,
     slots: BTreeMap<Attempt, Slot>,
 }
 
-impl Attempts {
+impl AttemptSlots {
     /// The attempts in the slots of a run.
-    pub(crate) fn of_run(alloc: Global, world: &World) -> Result<Attempts, Memory>
+    pub(crate) fn of_run(alloc: Global, world: &World) -> Result<AttemptSlots, Memory>
         ensures { IfOk result (AreAttemptsOf world.now) }
     {
-        let mut attempts = Attempts {
+        let mut attempts = AttemptSlots {
             counts: named_counts(alloc, world.scenario())?,
             slots: BTreeMap::new(alloc),
         };

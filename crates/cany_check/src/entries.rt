@@ -5,19 +5,19 @@ ghost use Rattle.cany_model.specs.Rules.Messages.{is_service};
 ghost use Rattle.cany_check.specs.Fates.{with_slot};
 ghost use Rattle.cany_check.specs.Words.{entry_slot, is_delivery, same_key};
 
-use crate::record::{MessageRecord, Slots};
+use crate::record::{FirstAndLast, MessageRecord};
 use cany_base::{LogEntry, MsgKey, Payload, Service, Slot};
 
 /// The least and the greatest of some slots, with one more.
-pub(crate) fn with_slot(slots: Option<Slots>, slot: Slot) -> Option<Slots>
+pub(crate) fn with_slot(slots: Option<FirstAndLast>, slot: Slot) -> Option<FirstAndLast>
     ensures { result ≡ with_slot slots slot }
 {
     match slots {
-        None => Some(Slots {
+        None => Some(FirstAndLast {
             first: slot,
             last: slot,
         }),
-        Some(slots) => Some(Slots {
+        Some(slots) => Some(FirstAndLast {
             first: slot.min(slots.first),
             last: slot.max(slots.last),
         }),

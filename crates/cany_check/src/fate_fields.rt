@@ -7,11 +7,11 @@ ghost use Rattle.cany_log.specs.Fields.{most_bytes, texts_of};
 ghost use Rattle.cany_text.specs.ReportLines.{set_text};
 
 use crate::findings::Told;
-use crate::record::Slots;
+use crate::record::FirstAndLast;
 use cany_base::{NodeSet, Slot};
 use cany_log::TextField;
 
-/// No field.
+/// No field: a word and a number, of which there is none.
 pub(crate) const NOTHING: TextField = TextField::NumberIfAny("", None);
 
 /// The pieces of a fate, one after another.
@@ -77,7 +77,7 @@ pub(crate) fn text_if(test: bool, word: &'static str) -> TextField
 }
 
 /// The first slot, or a dash.
-pub(crate) fn first_or_dash(slots: Option<Slots>) -> TextField
+pub(crate) fn first_or_dash(slots: Option<FirstAndLast>) -> TextField
     ensures texts { texts_of result ≡ parts.first_or_dash slots }
     ensures short { most_bytes result ≤ 22 }
 {
@@ -88,7 +88,7 @@ pub(crate) fn first_or_dash(slots: Option<Slots>) -> TextField
 }
 
 /// The last slot, where there is one.
-pub(crate) fn last_if_any(slots: Option<Slots>) -> TextField
+pub(crate) fn last_if_any(slots: Option<FirstAndLast>) -> TextField
     ensures texts { texts_of result ≡ parts.last_if_any slots }
     ensures short { most_bytes result ≤ 22 }
 {
@@ -99,7 +99,7 @@ pub(crate) fn last_if_any(slots: Option<Slots>) -> TextField
 }
 
 /// The first slot, where there is one.
-pub(crate) fn first_of(slots: Option<Slots>) -> Option<Slot>
+pub(crate) fn first_of(slots: Option<FirstAndLast>) -> Option<Slot>
     ensures { result ≡ option_map (λ s. s.first) slots }
 {
     match slots {

@@ -1,5 +1,5 @@
 //! What is found of an account.
-use crate::record::Slots;
+use crate::record::FirstAndLast;
 use cany_base::{MsgKey, NodeId, NodeSet, Service, Slot};
 
 /// What is judged of a part of the promise.
@@ -47,7 +47,7 @@ pub struct Told {
     /// The nodes of which some incarnation has delivered the message: nobody, of a sign.
     pub had: NodeSet,
     /// The slots of its entries in the logs of the nodes that have it.
-    pub slots: Option<Slots>,
+    pub slots: Option<FirstAndLast>,
 }
 
 /// An entry of the log of a correct node, by its place in the log.

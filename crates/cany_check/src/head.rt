@@ -4,7 +4,7 @@ ghost use Rattle.std.specs.Prelude.{◌≡◌, ◌≤◌, ◌∷◌, ◌++◌, [
 ghost use Rattle.std.specs.List.{concat};
 ghost use Rattle.cany_check.specs.CheckHead as head;
 ghost use Rattle.cany_check.specs.Findings.{AreFindings};
-ghost use Rattle.cany_check.specs.HeadParts.{count_texts, fate_texts, part_line, service_texts};
+ghost use Rattle.cany_check.specs.HeadParts.{count_texts, fate_count_texts, part_line, service_texts};
 ghost use Rattle.cany_log.specs.Fields.{most_bytes, texts_of};
 ghost use Rattle.cany_log.specs.Written.{IsWritten};
 ghost use Rattle.cany_text.specs.ReportLines.{line_of};
@@ -113,7 +113,7 @@ fn write_fates<K: Sink>(
     sink: &mut K,
 ) -> Result<(), Failed>
     requires { length words.now ≤ 9 }
-    ensures { IsWritten (line_of (words.now ∷ service_texts by ++ head.judgement_name judgement ∷ fate_texts counts)) result
+    ensures { IsWritten (line_of (words.now ∷ service_texts by ++ head.judgement_name judgement ∷ fate_count_texts counts)) result
         (K.taken sink.old) (K.taken sink.new) (K.faults sink.old) (K.faults sink.new) }
 {
     write_short_line(

@@ -4,11 +4,11 @@ ghost use Rattle.cany_base.specs.Nodes.{nobody};
 ghost use Rattle.cany_base.specs.declared.log_entry.LogEntry.{LogEntry as Entry};
 ghost use Rattle.cany_check.specs.Account.{LogParts};
 ghost use Rattle.cany_check.specs.AccountFields.{log_parts};
-ghost use Rattle.cany_check.specs.Holders.{AreHolders, IsOnly, cut, counts_since, no_holders, with_entry};
+ghost use Rattle.cany_check.specs.Holders.{AreHolders, IsOnly, log_with, counts_since, no_holders, with_entry};
 ghost use Rattle.cany_check.specs.Words.{nodes_of};
 
 use crate::entries::{entry_slot, with_slot};
-use crate::record::{LogRecord, Slots};
+use crate::record::{FirstAndLast, LogRecord};
 use cany_base::{LogEntry, Memory, NodeSet, Slot};
 use std::alloc::Global;
 
@@ -45,7 +45,7 @@ pub(crate) struct Holders {
     /// The nodes of which some log tells of it.
     pub had: NodeSet,
     /// The slots of the entries that tell of it in the logs of those that count.
-    pub slots: Option<Slots>,
+    pub slots: Option<FirstAndLast>,
 }
 
 /// Whether the node of the log counts, where it has to take part since this slot.
@@ -96,8 +96,8 @@ fn add_entry<S: Subjects>(
 )
     requires { length holders.old ≡ S.number subjects.now }
     ensures { (before : List LogParts) (entries : List Entry) →
-        AreHolders (S.number subjects.now) (S.tells subjects.now) (S.since subjects.now) (before ++ cut (log_parts log.now) entries ∷ []) holders.old
-        → AreHolders (S.number subjects.now) (S.tells subjects.now) (S.since subjects.now) (before ++ cut (log_parts log.now) (entries ++ entry.now ∷ []) ∷ []) holders.new }
+        AreHolders (S.number subjects.now) (S.tells subjects.now) (S.since subjects.now) (before ++ log_with (log_parts log.now) entries ∷ []) holders.old
+        → AreHolders (S.number subjects.now) (S.tells subjects.now) (S.since subjects.now) (before ++ log_with (log_parts log.now) (entries ++ entry.now ∷ []) ∷ []) holders.new }
 {
     match subjects.told_by(entry) {
         Some(index) => {

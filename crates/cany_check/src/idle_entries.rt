@@ -5,7 +5,7 @@ ghost use Rattle.cany_world.specs.World.{state_of};
 ghost use Rattle.cany_check.specs.Attempts.{AreAttemptsOf};
 ghost use Rattle.cany_check.specs.Unused.{unused};
 
-use crate::attempts::Attempts;
+use crate::attempts::AttemptSlots;
 use crate::unused_asks::{Asks, push_asks};
 use crate::unused_entry::Unused;
 use crate::unused_faults::push_faults;
@@ -16,7 +16,7 @@ use cany_world::World;
 use std::alloc::Global;
 
 /// `unused`, where these are the attempts of the run.
-fn unused_by(alloc: Global, world: &World, attempts: &Attempts) -> Result<Vec<Unused>, Memory>
+fn unused_by(alloc: Global, world: &World, attempts: &AttemptSlots) -> Result<Vec<Unused>, Memory>
     requires ended { has_ended world.now.scenario (state_of world.now) ≡ true }
     requires attempts { AreAttemptsOf world.now attempts.now }
     ensures { IfOk result (λ found. found.items ≡ unused world.now.scenario (state_of world.now)) }
@@ -48,6 +48,6 @@ pub fn unused(alloc: Global, world: &World) -> Result<Vec<Unused>, Memory>
     requires { has_ended world.now.scenario (state_of world.now) ≡ true }
     ensures { IfOk result (λ found. found.items ≡ unused world.now.scenario (state_of world.now)) }
 {
-    let attempts = Attempts::of_run(alloc, world)?;
+    let attempts = AttemptSlots::of_run(alloc, world)?;
     unused_by(alloc, world, &attempts)
 }

@@ -58,7 +58,7 @@ pub use judging::{Findings, judge};
 pub use making::account_of;
 pub use messages::message_fates;
 pub use order::parting;
-pub use record::{LogRecord, MessageRecord, SignRecord, Slots};
+pub use record::{FirstAndLast, LogRecord, MessageRecord, SignRecord};
 pub use signs::sign_fates;
 pub use text::write_check;
 pub use top::check_top;

@@ -21,7 +21,8 @@ use cany_log::{TextField, write_line};
 use cany_text::names::service_name;
 
 /// How long the protocol of the service waits: the slots between a copy of a message and the last
-/// closing or timer of it.
+/// closing of it by TOTCAN, or its timer by RELCAN. EDCAN has neither: in a run no node has a
+/// message of EDCAN ahead, so this is asked of the other two alone.
 #[tactic(auto, unfolding(cany_model::specs::Rules::Messages::is_service, cany_model::specs::Bus::Frames::same_class))]
 fn wait(params: &Params, service: Service) -> u64
     ensures wait { result ≡ line.wait params.now service }

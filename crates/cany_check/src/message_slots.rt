@@ -7,7 +7,7 @@ ghost use Rattle.cany_check.specs.Places.{AreNumbered};
 ghost use Rattle.cany_check.specs.Records.{message_slots, record_frame, record_id, sends_record, slots_after, with_last};
 
 use crate::places::{Places, places_of};
-use crate::record::{MessageRecord, Slots};
+use crate::record::{FirstAndLast, MessageRecord};
 use cany_base::{Frame, Memory, MsgKey, Slot, SlotNote};
 use std::alloc::Global;
 
@@ -15,18 +15,18 @@ use std::alloc::Global;
 #[derive(Clone, Copy)]
 pub(crate) struct MessageSlots {
     pub(crate) sent: Option<Slot>,
-    pub(crate) carried: Option<Slots>,
+    pub(crate) carried: Option<FirstAndLast>,
 }
 
 /// The slots with a later one.
-pub(crate) fn with_last(slots: Option<Slots>, slot: Slot) -> Option<Slots>
+pub(crate) fn with_last(slots: Option<FirstAndLast>, slot: Slot) -> Option<FirstAndLast>
     ensures { result ≡ with_last slots slot }
 {
     let first = match slots {
         None => slot,
         Some(slots) => slots.first,
     };
-    Some(Slots { first, last: slot })
+    Some(FirstAndLast { first, last: slot })
 }
 
 /// Whether the frame has the identity of the data frame of the message.

@@ -1,7 +1,7 @@
 //! Where the message of a key stands among the messages of an account.
 ghost use Rattle.std.specs.Prelude.{◌≡◌, ◌==◌, ◌<◌, ◌++◌, ℕ, [], ◌∷◌, if◌then◌else◌, map, replicate, length, slice_index_or, IfOk, IfSome, OnOk};
 ghost use Rattle.cany_base.specs.Limits.{most_nodes};
-ghost use Rattle.cany_check.specs.Places.{AreNumbered, items_of, place_of};
+ghost use Rattle.cany_check.specs.Places.{AreNumbered, lists_of, place_of};
 
 use crate::record::MessageRecord;
 use cany_base::{Memory, MsgKey, NodeId};
@@ -30,7 +30,7 @@ impl<'a> Model for Places<'a> {
 
 /// No place, of each origin.
 fn no_places(alloc: Global) -> Result<Vec<Vec<usize>>, Memory>
-    ensures { IfOk result (λ rows. items_of rows.items ≡ replicate most_nodes []) }
+    ensures { IfOk result (λ rows. lists_of rows.items ≡ replicate most_nodes []) }
 {
     let mut rows = Vec::new(alloc);
     for _ in 0..NodeId::COUNT {
@@ -43,8 +43,8 @@ fn no_places(alloc: Global) -> Result<Vec<Vec<usize>>, Memory>
 fn add(rows: &mut Vec<Vec<usize>>, origin: usize, place: usize) -> Result<(), Memory>
     requires { origin < length rows.old.items }
     ensures length { OnOk result (length rows.new.items ≡ length rows.old.items) }
-    ensures rows { OnOk result ((o : ℕ) → slice_index_or (items_of rows.new.items) o [] ≡ (if o == origin
-        then slice_index_or (items_of rows.old.items) o [] ++ place ∷ [] else slice_index_or (items_of rows.old.items) o [])) }
+    ensures rows { OnOk result ((o : ℕ) → slice_index_or (lists_of rows.new.items) o [] ≡ (if o == origin
+        then slice_index_or (lists_of rows.old.items) o [] ++ place ∷ [] else slice_index_or (lists_of rows.old.items) o [])) }
 {
     rows[origin].push(place)?;
     Ok(())

@@ -3,7 +3,7 @@ use cany_base::{LogEntry, MsgKey, NodeId, NodeSet, Payload, Service, Slot};
 
 /// The first and the last of some slots.
 #[derive(Clone, Copy)]
-pub struct Slots {
+pub struct FirstAndLast {
     pub first: Slot,
     pub last: Slot,
 }
@@ -20,7 +20,7 @@ pub struct MessageRecord {
     /// senders.
     pub sent: Option<Slot>,
     /// The slots that carried a frame of the identity of its data frame, with whatever verdict.
-    pub carried: Option<Slots>,
+    pub carried: Option<FirstAndLast>,
     /// Whether its origin runs, takes part since the scripted slot, and has not asked for it.
     pub queued: bool,
     /// The running nodes that wait with its data frame, or with a frame that confirms or accepts
@@ -48,7 +48,7 @@ pub struct SignRecord {
     pub node: NodeId,
     pub cycle: u16,
     /// The slots that carried its frame, with whatever verdict.
-    pub carried: Option<Slots>,
+    pub carried: Option<FirstAndLast>,
     /// The running nodes that wait with its frame.
     pub waits: NodeSet,
 }

@@ -21,8 +21,11 @@ use cany_world::World;
 use std::alloc::Global;
 use std::collections::BTreeMap;
 
-/// By what a sign stands in a table.
-fn sign_key(node: NodeId, cycle: u16) -> (u16, u8)
+/// By what a sign stands in a table: its cycle, and then its node.
+type SignKey = (u16, u8);
+
+/// The key of a sign.
+fn sign_key(node: NodeId, cycle: u16) -> SignKey
     ensures { result ≡ sign_key (record { node = node; cycle = cycle }) }
 {
     (cycle, node.get())
@@ -45,7 +48,7 @@ fn new_record(world: &World, node: NodeId, cycle: u16) -> SignRecord
 fn enter(
     world: &World,
     entry: &LogEntry,
-    table: &mut BTreeMap<(u16, u8), SignRecord>,
+    table: &mut BTreeMap<SignKey, SignRecord>,
 ) -> Result<(), Memory>
     requires { TellsWithin world.now.scenario.params.nodes entry.now }
     ensures { (told : List FailureSign) → table.old.entries ≡ map (sign_entry (state_of world.now) []) (ascending is_sign_before told)
@@ -65,7 +68,7 @@ fn enter(
 fn enter_all(
     world: &World,
     log: &LogRecord<'_>,
-    table: &mut BTreeMap<(u16, u8), SignRecord>,
+    table: &mut BTreeMap<SignKey, SignRecord>,
 ) -> Result<(), Memory>
     requires { All (TellsWithin world.now.scenario.params.nodes) (log_parts log.now).entries }
     ensures { (told : List FailureSign) → table.old.entries ≡ map (sign_entry (state_of world.now) []) (ascending is_sign_before told)
@@ -81,7 +84,7 @@ fn enter_all(
 fn enter_running(
     world: &World,
     log: &LogRecord<'_>,
-    table: &mut BTreeMap<(u16, u8), SignRecord>,
+    table: &mut BTreeMap<SignKey, SignRecord>,
 ) -> Result<(), Memory>
     requires { log.now.runs ≡ true → All (TellsWithin world.now.scenario.params.nodes) (log_parts log.now).entries }
     ensures { (told : List FailureSign) → table.old.entries ≡ map (sign_entry (state_of world.now) []) (ascending is_sign_before told)
@@ -98,7 +101,7 @@ fn table_of(
     alloc: Global,
     world: &World,
     logs: &[LogRecord<'_>],
-) -> Result<BTreeMap<(u16, u8), SignRecord>, Memory>
+) -> Result<BTreeMap<SignKey, SignRecord>, Memory>
     requires { (i : ℕ) (log : AnyLog) → slice_get logs.now i ≡ Some log → log.runs ≡ true
         → All (TellsWithin world.now.scenario.params.nodes) (log_parts log).entries }
     ensures { IfOk result (λ table. table.entries ≡ map (sign_entry (state_of world.now) []) (signs_told (map log_parts logs.now))) }
@@ -111,7 +114,7 @@ fn table_of(
 }
 
 /// The table after one more slot.
-fn go_over(note: &SlotNote, table: &mut BTreeMap<(u16, u8), SignRecord>) -> Result<(), Memory>
+fn go_over(note: &SlotNote, table: &mut BTreeMap<SignKey, SignRecord>) -> Result<(), Memory>
     ensures { (s : RunState) (trace : List AnyNote) (told : List FailureSign)
         → table.old.entries ≡ map (sign_entry s trace) told → OnOk result (table.new.entries ≡ map (sign_entry s (note.now ∷ trace)) told) }
 {
@@ -130,11 +133,7 @@ fn is_fda(frame: &Frame) -> bool
 }
 
 /// The table after one more slot, which carried this frame.
-fn carry(
-    frame: &Frame,
-    slot: Slot,
-    table: &mut BTreeMap<(u16, u8), SignRecord>,
-) -> Result<(), Memory>
+fn carry(frame: &Frame, slot: Slot, table: &mut BTreeMap<SignKey, SignRecord>) -> Result<(), Memory>
     ensures { (s : RunState) (trace : List AnyNote) (note : AnyNote) (told : List FailureSign)
         → note.frame ≡ Some frame.now → note.slot ≡ slot
         → table.old.entries ≡ map (sign_entry s trace) told → OnOk result (table.new.entries ≡ map (sign_entry s (note ∷ trace)) told) }
@@ -163,10 +162,7 @@ fn carried_in(sign: SignRecord, slot: Slot) -> SignRecord
 }
 
 /// The table after the slots of a run with this trace, oldest slot first.
-fn go_over_all(
-    trace: &[SlotNote],
-    table: &mut BTreeMap<(u16, u8), SignRecord>,
-) -> Result<(), Memory>
+fn go_over_all(trace: &[SlotNote], table: &mut BTreeMap<SignKey, SignRecord>) -> Result<(), Memory>
     ensures { (s : RunState) (told : List FailureSign)
         → table.old.entries ≡ map (sign_entry s []) told → OnOk result (table.new.entries ≡ map (sign_entry s (reverse trace.now)) told) }
 {
@@ -179,7 +175,7 @@ fn go_over_all(
 /// The records of a table, by ascending cycle and then node.
 fn records_of(
     alloc: Global,
-    table: &BTreeMap<(u16, u8), SignRecord>,
+    table: &BTreeMap<SignKey, SignRecord>,
 ) -> Result<Vec<SignRecord>, Memory>
     ensures { IfOk result (λ records. records.items ≡ values table.now) }
 {

@@ -3,7 +3,7 @@ ghost use Rattle.std.specs.Prelude.{◌≡◌, not, is_none, length, IfOk};
 ghost use Rattle.cany_base.specs.Nodes.{is_nobody};
 ghost use Rattle.cany_check.specs.Fates.{sign_fate_by, sign_fates, sign_told};
 ghost use Rattle.cany_check.specs.Holders.{IsOnly, holders_in};
-ghost use Rattle.cany_check.specs.SignSubjects.{DoAscend, names_at, sign_since, since_at, tells_at};
+ghost use Rattle.cany_check.specs.SignSubjects.{DoAscend, names_at, sign_since, sign_since_at, tells_at};
 ghost use Rattle.cany_check.specs.Words.{tells_sign};
 
 use crate::account::Account;
@@ -68,7 +68,7 @@ impl<'a> Subjects for Signs<'a> {
 
     ghost tells = { λ signs. tells_at signs };
 
-    ghost since = { λ signs. since_at signs };
+    ghost since = { λ signs. sign_since_at signs };
 
     fn count(&self) -> usize {
         self.all().len()

@@ -6,7 +6,7 @@ ghost use Rattle.cany_check.specs.Asks.{ask_class, ask_entry, asks_of};
 ghost use Rattle.cany_check.specs.Attempts.{AreAttemptsOf, asked_frame, is_named};
 ghost use Rattle.cany_check.specs.Unused.{as_list, is_carried_later, unused_ask, with_places};
 
-use crate::attempts::{Attempts, asked_identity};
+use crate::attempts::{AttemptSlots, asked_identity};
 use crate::finding::push_found;
 use crate::presence::missed;
 use crate::unused_entry::{NoAsk, Unused, UnusedEntry};
@@ -53,7 +53,7 @@ impl Asks {
 }
 
 /// Whether a later slot carried the frame of the join or leave.
-fn is_carried_later(world: &World, attempts: &Attempts, class: Class, ask: &NodeAsk) -> bool
+fn is_carried_later(world: &World, attempts: &AttemptSlots, class: Class, ask: &NodeAsk) -> bool
     requires ask { IsAskOf world.now.scenario.params ask.now }
     requires attempts { AreAttemptsOf world.now attempts.now }
     requires named { is_named world.now.scenario (asked_frame world.now.scenario.params class ask.now) ≡ true }
@@ -66,7 +66,7 @@ fn is_carried_later(world: &World, attempts: &Attempts, class: Class, ask: &Node
 }
 
 /// Why a join or leave did nothing, if so.
-fn unused_ask(world: &World, attempts: &Attempts, class: Class, ask: &NodeAsk) -> Option<NoAsk>
+fn unused_ask(world: &World, attempts: &AttemptSlots, class: Class, ask: &NodeAsk) -> Option<NoAsk>
     requires ask { IsAskOf world.now.scenario.params ask.now }
     requires attempts { AreAttemptsOf world.now attempts.now }
     requires named { is_named world.now.scenario (asked_frame world.now.scenario.params class ask.now) ≡ true }
@@ -82,7 +82,7 @@ fn unused_ask(world: &World, attempts: &Attempts, class: Class, ask: &NodeAsk) -
 /// Appends the joins, or the leaves, that did nothing, in file order.
 pub(crate) fn push_asks(
     world: &World,
-    attempts: &Attempts,
+    attempts: &AttemptSlots,
     kind: Asks,
     found: &mut Vec<Unused>,
 ) -> Result<(), Memory>

@@ -11,7 +11,7 @@ ghost use Rattle.cany_check.specs.declared.unused_entry.UnusedEntry.TheVariants 
 ghost use Rattle.cany_check.specs.Attempts.{AreAttemptsOf, is_named, is_ruled};
 ghost use Rattle.cany_check.specs.Unused.{as_list, attempt_slot, is_receiver, reject_set, some_node_of, unused_in, unused_of_frame, unused_rule, unused_stops, unused_verdict, with_places};
 
-use crate::attempts::Attempts;
+use crate::attempts::AttemptSlots;
 use crate::finding::{as_fault, push_found};
 use crate::presence::ran_in;
 use crate::unused_entry::{NoFault, Unused};
@@ -112,7 +112,7 @@ fn unused_in(world: &World, slot: Slot, rule: &Rule) -> NoEffects
 fn unused_of_frame(
     world: &World,
     script: &Script,
-    attempts: &Attempts,
+    attempts: &AttemptSlots,
     identity: &FrameIdentity,
     nth: u64,
     rule: &Rule,
@@ -141,7 +141,7 @@ fn unused_of_frame(
 }
 
 /// What of a rule did nothing.
-fn unused_rule(world: &World, script: &Script, attempts: &Attempts, rule: &Rule) -> NoEffects
+fn unused_rule(world: &World, script: &Script, attempts: &AttemptSlots, rule: &Rule) -> NoEffects
     requires ended { has_ended world.now.scenario (state_of world.now) ≡ true }
     requires script { script.now ≡ world.now.scenario.rules }
     requires attempts { AreAttemptsOf world.now attempts.now }
@@ -167,7 +167,7 @@ fn unused_rule(world: &World, script: &Script, attempts: &Attempts, rule: &Rule)
 fn push_rules(
     world: &World,
     script: &Script,
-    attempts: &Attempts,
+    attempts: &AttemptSlots,
     found: &mut Vec<Unused>,
 ) -> Result<(), Memory>
     requires ended { has_ended world.now.scenario (state_of world.now) ≡ true }
@@ -192,7 +192,7 @@ fn push_rules(
 pub(crate) fn push_faults(
     alloc: Global,
     world: &World,
-    attempts: &Attempts,
+    attempts: &AttemptSlots,
     found: &mut Vec<Unused>,
 ) -> Result<(), Memory>
     requires ended { has_ended world.now.scenario (state_of world.now) ≡ true }

@@ -3,7 +3,7 @@ ghost use Rattle.std.specs.Prelude.{◌≡◌, ◌==◌, ◌<◌, ◌++◌, ℕ,
 ghost use Rattle.std.specs.List.{flat_map};
 ghost use Rattle.cany_check.specs.Account.{running};
 ghost use Rattle.cany_check.specs.AccountFields.{log_parts};
-ghost use Rattle.cany_check.specs.ViewRows.{HasRows, is_apart, parting_of, views_in, with_other, with_view};
+ghost use Rattle.cany_check.specs.ViewRows.{HasRows, views_differ, row_parting, views_in, with_other, with_view};
 ghost use Rattle.cany_check.specs.Views.{HeldView, view_in, view_numbers, view_partings};
 
 use crate::account::Account;
@@ -17,8 +17,8 @@ use std::alloc::Global;
 type ViewRow = Option<ViewParting>;
 
 /// Whether the two views have other members.
-fn is_apart(row: &ViewParting) -> bool
-    ensures { result ≡ is_apart row.now }
+fn views_differ(row: &ViewParting) -> bool
+    ensures { result ≡ views_differ row.now }
 {
     row.members.bits() != row.others.bits()
 }
@@ -27,7 +27,7 @@ fn is_apart(row: &ViewParting) -> bool
 fn with_other(row: &ViewParting, node: NodeId, members: NodeSet) -> ViewParting
     ensures { result ≡ with_other row.now node members }
 {
-    if is_apart(row) {
+    if views_differ(row) {
         return *row;
     }
     if row.members.bits() == members.bits() {
@@ -133,22 +133,22 @@ fn count_numbers(rows: &[ViewRow]) -> usize
 }
 
 /// Where the views of a number part, if there are some and they do.
-fn parting_of(row: &ViewRow) -> Option<ViewParting>
-    ensures { result ≡ parting_of row.now }
+fn row_parting(row: &ViewRow) -> Option<ViewParting>
+    ensures { result ≡ row_parting row.now }
 {
     match row {
         None => None,
-        Some(row) => { if is_apart(row) { Some(*row) } else { None } }
+        Some(row) => { if views_differ(row) { Some(*row) } else { None } }
     }
 }
 
 /// Where the views of each number part that is apart, ascending.
 fn find_partings(alloc: Global, rows: &[ViewRow]) -> Result<Vec<ViewParting>, Memory>
-    ensures { IfOk result (λ found. found.items ≡ filter_map parting_of rows.now) }
+    ensures { IfOk result (λ found. found.items ≡ filter_map row_parting rows.now) }
 {
     let mut found = Vec::new(alloc);
     for row in rows {
-        if let Some(parting) = parting_of(row) {
+        if let Some(parting) = row_parting(row) {
             found.push(parting)?;
         }
     }

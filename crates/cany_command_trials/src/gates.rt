@@ -31,10 +31,13 @@ pub(crate) struct Meeting<'a> {
     asked: &'a AtomicU64,
     closed_from: Slot,
     refusals: u64,
+    refused_at: Option<Slot>,
 }
 
 impl Gate for Meeting<'_> {
     ghost refusals = { λ gate. gate.refusals };
+
+    ghost refused_at = { λ gate. gate.refused_at };
 
     fn pass(&mut self, node: NodeId, slot: Slot) -> bool {
         let is_free = slot > 0 || node.get() > 1;
@@ -42,6 +45,7 @@ impl Gate for Meeting<'_> {
             return true;
         }
         self.refusals = self.refusals.saturating_add(1);
+        self.refused_at = Some(slot);
         false
     }
 }
@@ -60,6 +64,7 @@ pub(crate) fn meetings(
             asked,
             closed_from,
             refusals: 0,
+            refused_at: None,
         })?;
     }
     Ok(gates)

@@ -8,10 +8,10 @@ use Rattle.cany_io.specs.Faults.{HasRisen}
 use Rattle.cany_yard.specs.Seats.{SeatParts, AreFirstSeats}
 use Rattle.cany_crew.specs.declared.assignment.Assignment.{Assignment}
 use Rattle.cany_crew.specs.declared.assignment.Assignment.TheVariants.{Bus, Node}
-use Rattle.cany_crew.specs.Gates.{HasRefused, IsOutcome, NoneFell}
+use Rattle.cany_crew.specs.Gates.{IsHeldAt, IsOutcome, NoneFell}
 use Rattle.cany_crew.specs.Assignment.{AssignmentParts}
-use Rattle.cany_crew.specs.Assignments.{counts_of, has_bus, AreFrom, refused_or, first_refused, IsWorked, IsAfterWork, AreAfterWork}
-use Rattle.cany_crew.proofs.GateFacts.{none_fell, fell_with, refused_with}
+use Rattle.cany_crew.specs.Assignments.{counts_of, slots_of, has_bus, AreFrom, refused_or, first_refused, IsWorked, IsAfterWork, AreAfterWork}
+use Rattle.cany_crew.proofs.GateFacts.{none_fell, fell_with, held_with}
 
 -- ---- the first of a list
 
@@ -96,56 +96,63 @@ filled_next {L} {B} {G} {X} refusals i assignments assignments' gates gates' all
 -- ---- the assignments that are left
 
 -- the gates that came back, and those at the assignments that are left
-pub record AreEmptied {L B G X : Type 0} (refusals : X → ℕ) (bus : Bool) (all assignments : List (Assignment L B G)) (before gates : List X) (seats_before seats : ℕ) : Type 0 where
+pub record AreEmptied {L B G X : Type 0} (refusals : X → ℕ) (refused_at : X → Option ℕ) (bus : Bool) (all assignments : List (Assignment L B G)) (before gates : List X) (seats_before seats : ℕ) : Type 0 where
   pub counts : map refusals gates ++ counts_of assignments ≡ map refusals before ++ counts_of all
+  pub slots : map refused_at gates ++ slots_of assignments ≡ map refused_at before ++ slots_of all
   pub count : seats + length (counts_of assignments) ≡ seats_before + length (counts_of all)
   pub with_bus : has_bus all ≡ true → bus ≡ false → has_bus assignments ≡ true
 
-pub emptied_none : {L B G X : Type 0} (refusals : X → ℕ) (bus : Bool) (all : List (Assignment L B G)) (gates : List X) (seats : ℕ)
-    → AreEmptied refusals bus all all gates gates seats seats
-emptied_none refusals bus all gates seats = record { counts = refl; count = refl; with_bus = λ has none. has }
+-- a gate more went back
+map_more : {X Y : Type 0} (f : X → Y) (gates gates' : List X) (gate : X) (y : Y) (rest all : List Y) → y ≡ f gate → gates' ≡ gates ++ gate ∷ []
+    → map f gates ++ y ∷ rest ≡ all → map f gates' ++ rest ≡ all
+map_more {X} {Y} f gates gates' gate y rest all same more so =
+    ap (λ (g : List X). map f g ++ rest) more
+    ∙ ap (λ (c : List Y). c ++ rest) (map-append f gates (gate ∷ []))
+    ∙ append_assoc (map f gates) (f gate ∷ []) rest
+    ∙ ap (λ z. map f gates ++ z ∷ rest) (sym same)
+    ∙ so
 
-pub emptied_bus : {L B G X : Type 0} (refusals : X → ℕ) (bus bus' : Bool) (all assignments assignments' : List (Assignment L B G)) (before gates : List X) (seats_before seats : ℕ)
-    (assignment : Assignment L B G) (seat : ℕ) → AreEmptied refusals bus all assignments before gates seats_before seats
+pub emptied_none : {L B G X : Type 0} (refusals : X → ℕ) (refused_at : X → Option ℕ) (bus : Bool) (all : List (Assignment L B G)) (gates : List X) (seats : ℕ)
+    → AreEmptied refusals refused_at bus all all gates gates seats seats
+emptied_none refusals refused_at bus all gates seats = record { counts = refl; slots = refl; count = refl; with_bus = λ has none. has }
+
+pub emptied_bus : {L B G X : Type 0} (refusals : X → ℕ) (refused_at : X → Option ℕ) (bus bus' : Bool) (all assignments assignments' : List (Assignment L B G)) (before gates : List X) (seats_before seats : ℕ)
+    (assignment : Assignment L B G) (seat : ℕ) → AreEmptied refusals refused_at bus all assignments before gates seats_before seats
     → 0 < length assignments → assignment ≡ slice_index_or assignments 0 assignment → assignments' ≡ remove assignments 0 → assignment ≡ Bus seat → bus' ≡ true
-    → AreEmptied refusals bus' all assignments' before gates seats_before seats
-emptied_bus {L} {B} {G} refusals bus bus' all assignments assignments' before gates seats_before seats assignment seat so some is rest e has =
+    → AreEmptied refusals refused_at bus' all assignments' before gates seats_before seats
+emptied_bus {L} {B} {G} refusals refused_at bus bus' all assignments assignments' before gates seats_before seats assignment seat so some is rest e has =
     let first : assignments ≡ Bus seat ∷ assignments' = first_taken assignments assignments' assignment some is rest ∙ ap (λ (p : Assignment L B G). p ∷ assignments') e in
-    let now = subst (λ (ps : List (Assignment L B G)). AreEmptied refusals bus all ps before gates seats_before seats) first so in
-    record { counts = now.counts; count = now.count; with_bus = λ all none. absurd (false≢true (sym none ∙ has)) }
+    let now = subst (λ (ps : List (Assignment L B G)). AreEmptied refusals refused_at bus all ps before gates seats_before seats) first so in
+    record { counts = now.counts; slots = now.slots; count = now.count; with_bus = λ all none. absurd (false≢true (sym none ∙ has)) }
 
-pub emptied_node : {L B G X : Type 0} (refusals : X → ℕ) (bus : Bool) (all assignments assignments' : List (Assignment L B G)) (before gates gates' : List X) (seats_before seats seats' : ℕ)
-    (assignment : Assignment L B G) (parts : AssignmentParts) (gate : X) → AreEmptied refusals bus all assignments before gates seats_before seats
+pub emptied_node : {L B G X : Type 0} (refusals : X → ℕ) (refused_at : X → Option ℕ) (bus : Bool) (all assignments assignments' : List (Assignment L B G)) (before gates gates' : List X) (seats_before seats seats' : ℕ)
+    (assignment : Assignment L B G) (parts : AssignmentParts) (gate : X) → AreEmptied refusals refused_at bus all assignments before gates seats_before seats
     → 0 < length assignments → assignment ≡ slice_index_or assignments 0 assignment → assignments' ≡ remove assignments 0 → assignment ≡ Node parts
-    → parts.refusals ≡ refusals gate → gates' ≡ gates ++ gate ∷ [] → seats' ≡ seats + 1
-    → AreEmptied refusals bus all assignments' before gates' seats_before seats'
-emptied_node {L} {B} {G} {X} refusals bus all assignments assignments' before gates gates' seats_before seats seats' assignment parts gate so some is rest e counts more one =
+    → parts.refusals ≡ refusals gate → parts.refused_at ≡ refused_at gate → gates' ≡ gates ++ gate ∷ [] → seats' ≡ seats + 1
+    → AreEmptied refusals refused_at bus all assignments' before gates' seats_before seats'
+emptied_node {L} {B} {G} {X} refusals refused_at bus all assignments assignments' before gates gates' seats_before seats seats' assignment parts gate so some is rest e counts slots more one =
     let first : assignments ≡ Node parts ∷ assignments' = first_taken assignments assignments' assignment some is rest ∙ ap (λ (p : Assignment L B G). p ∷ assignments') e in
-    let now = subst (λ (ps : List (Assignment L B G)). AreEmptied refusals bus all ps before gates seats_before seats) first so in
+    let now = subst (λ (ps : List (Assignment L B G)). AreEmptied refusals refused_at bus all ps before gates seats_before seats) first so in
     record {
-      counts =
-          ap (λ (g : List X). map refusals g ++ counts_of assignments') more
-          ∙ ap (λ (c : List ℕ). c ++ counts_of assignments') (map-append refusals gates (gate ∷ []))
-          ∙ append_assoc (map refusals gates) (refusals gate ∷ []) (counts_of assignments')
-          ∙ ap (λ n. map refusals gates ++ n ∷ counts_of assignments') (sym counts)
-          ∙ now.counts;
+      counts = map_more refusals gates gates' gate parts.refusals (counts_of assignments') _ counts more now.counts;
+      slots = map_more refused_at gates gates' gate parts.refused_at (slots_of assignments') _ slots more now.slots;
       count = let s = now.count in omega arith;
       with_bus = now.with_bus;
     }
 
 -- where none is left, all came back
-pub emptied_all : {L B G X : Type 0} (refusals : X → ℕ) (bus : Bool) (all assignments : List (Assignment L B G)) (before gates : List X) (seats_before seats : ℕ) → length assignments ≡ 0
-    → AreEmptied refusals bus all assignments before gates seats_before seats
-    → (map refusals gates ≡ map refusals before ++ counts_of all) × (seats ≡ seats_before + length (counts_of all))
-emptied_all refusals bus all [] before gates seats_before seats none so =
-    (sym (append-nil (map refusals gates)) ∙ so.counts, (let count = so.count in omega arith))
-emptied_all refusals bus all (x ∷ xs) before gates seats_before seats none so = absurd (omega arith)
+pub emptied_all : {L B G X : Type 0} (refusals : X → ℕ) (refused_at : X → Option ℕ) (bus : Bool) (all assignments : List (Assignment L B G)) (before gates : List X) (seats_before seats : ℕ) → length assignments ≡ 0
+    → AreEmptied refusals refused_at bus all assignments before gates seats_before seats
+    → (map refusals gates ≡ map refusals before ++ counts_of all) × (map refused_at gates ≡ map refused_at before ++ slots_of all) × (seats ≡ seats_before + length (counts_of all))
+emptied_all refusals refused_at bus all [] before gates seats_before seats none so =
+    (sym (append-nil (map refusals gates)) ∙ so.counts, sym (append-nil (map refused_at gates)) ∙ so.slots, (let count = so.count in omega arith))
+emptied_all refusals refused_at bus all (x ∷ xs) before gates seats_before seats none so = absurd (omega arith)
 
 -- and the seat of the bus is one of them
-pub emptied_some : {L B G X : Type 0} (refusals : X → ℕ) (bus : Bool) (all assignments : List (Assignment L B G)) (before gates : List X) (seats_before seats : ℕ) → length assignments ≡ 0
-    → AreEmptied refusals bus all assignments before gates seats_before seats → has_bus all ≡ true → bus ≡ false → ⊥
-emptied_some refusals bus all [] before gates seats_before seats none so has without = false≢true (so.with_bus has without)
-emptied_some refusals bus all (x ∷ xs) before gates seats_before seats none so has without = absurd (omega arith)
+pub emptied_some : {L B G X : Type 0} (refusals : X → ℕ) (refused_at : X → Option ℕ) (bus : Bool) (all assignments : List (Assignment L B G)) (before gates : List X) (seats_before seats : ℕ) → length assignments ≡ 0
+    → AreEmptied refusals refused_at bus all assignments before gates seats_before seats → has_bus all ≡ true → bus ≡ false → ⊥
+emptied_some refusals refused_at bus all [] before gates seats_before seats none so has without = false≢true (so.with_bus has without)
+emptied_some refusals refused_at bus all (x ∷ xs) before gates seats_before seats none so has without = absurd (omega arith)
 
 -- ---- the work
 
@@ -155,15 +162,34 @@ tails x y xs ys h = record { len = let e = h.len in omega arith; each = λ i d l
 heads : {L B G : Type 0} (x y : Assignment L B G) (xs ys : List (Assignment L B G)) → AreAfterWork (x ∷ xs) (y ∷ ys) → IsAfterWork x y
 heads x y xs ys h = h.each 0 x (omega arith)
 
--- what is known of the counts of assignments after the work
-pub record AreCounted (node : ℕ) (before after : List ℕ) (held : Option (ℕ × ℕ)) : Type 0 where
+-- what is known of the gates of assignments after the work
+pub record AreCounted (node : ℕ) (before after : List ℕ) (last : List (Option ℕ)) (held : Option (ℕ × ℕ)) : Type 0 where
   pub fell : NoneFell before after
   pub passed : held ≡ None → after ≡ before
-  pub found : (at slot : ℕ) → held ≡ Some (at, slot) → (node ≤ at) × HasRefused (at - node) before after
+  pub found : (at slot : ℕ) → held ≡ Some (at, slot) → (node ≤ at) × IsHeldAt (at - node) slot before after last
 
-counted_more : (node : ℕ) (p q : AssignmentParts) (before after : List ℕ) (held : Option (ℕ × ℕ)) → p.node ≡ node → IsWorked p q → AreCounted (node + 1) before after held
-    → AreCounted node (p.refusals ∷ before) (q.refusals ∷ after) (refused_or q.node q.refused held)
-counted_more node p q before after held is worked rest = record {
+-- the gate of the first of them passed all
+held_more : (node slot old new : ℕ) (at : Option ℕ) (before after : List ℕ) (last : List (Option ℕ)) → new ≡ old → IsHeldAt node slot before after last
+    → IsHeldAt (suc node) slot (old ∷ before) (new ∷ after) (at ∷ last)
+held_more node slot old new at before after last same held = record {
+  refused = ((let within = held.refused.0 in omega arith), held.refused.1);
+  slot_is = held.slot_is;
+  least = least;
+}
+  where
+    least : (lesser : ℕ) → lesser < suc node → slice_index (new ∷ after) lesser ≡ slice_index (old ∷ before) lesser
+    least zero less = same
+    least (suc lesser) less = held.least lesser (omega arith)
+
+-- it refused a pass
+held_first : (slot old new : ℕ) (at : Option ℕ) (before after : List ℕ) (last : List (Option ℕ)) → HasRisen old new → at ≡ Some slot
+    → IsHeldAt 0 slot (old ∷ before) (new ∷ after) (at ∷ last)
+held_first slot old new at before after last risen is = record { refused = (omega arith, risen); slot_is = is; least = λ lesser less. absurd (omega (arith, less)) }
+
+counted_more : (node : ℕ) (p q : AssignmentParts) (before after : List ℕ) (last : List (Option ℕ)) (held : Option (ℕ × ℕ)) → p.node ≡ node → IsWorked p q
+    → AreCounted (node + 1) before after last held
+    → AreCounted node (p.refusals ∷ before) (q.refusals ∷ after) (q.refused_at ∷ last) (refused_or q.node q.refused held)
+counted_more node p q before after last held is worked rest = record {
   fell = record { len = ap suc rest.fell.len; each = fell };
   passed = passed q.refused worked.gate.1;
   found = found q.refused worked.gate.1;
@@ -173,28 +199,33 @@ counted_more node p q before after held is worked rest = record {
     fell zero = worked.gate.0
     fell (suc i) = rest.fell.each i
 
-    passed : (refused : Option ℕ) → MatchOption refused (q.refusals ≡ p.refusals) (λ slot. HasRisen p.refusals q.refusals) → refused_or q.node refused held ≡ None
+    passed : (refused : Option ℕ) → MatchOption refused (q.refusals ≡ p.refusals) (λ slot. HasRisen p.refusals q.refusals × (q.refused_at ≡ Some slot))
+        → refused_or q.node refused held ≡ None
         → q.refusals ∷ after ≡ p.refusals ∷ before
     passed None same none = λ k. same k ∷ (rest.passed none) k
     passed (Some slot) risen none = absurd (grind arith)
 
-    found : (refused : Option ℕ) → MatchOption refused (q.refusals ≡ p.refusals) (λ slot. HasRisen p.refusals q.refusals) → (at slot : ℕ)
-        → refused_or q.node refused held ≡ Some (at, slot) → (node ≤ at) × HasRefused (at - node) (p.refusals ∷ before) (q.refusals ∷ after)
+    found : (refused : Option ℕ) → MatchOption refused (q.refusals ≡ p.refusals) (λ slot. HasRisen p.refusals q.refusals × (q.refused_at ≡ Some slot))
+        → (at slot : ℕ) → refused_or q.node refused held ≡ Some (at, slot)
+        → (node ≤ at) × IsHeldAt (at - node) slot (p.refusals ∷ before) (q.refusals ∷ after) (q.refused_at ∷ last)
     found None same at slot e =
         let f = rest.found at slot e in
         let n : suc (at - (node + 1)) ≡ at - node = let le = f.0 in omega arith in (
           (let le = f.0 in omega arith),
-          subst (λ k. HasRefused k (p.refusals ∷ before) (q.refusals ∷ after)) n ((let l = f.1.0 in omega arith), f.1.1),
+          subst (λ k. IsHeldAt k slot (p.refusals ∷ before) (q.refusals ∷ after) (q.refused_at ∷ last)) n
+              (held_more (at - (node + 1)) slot p.refusals q.refusals q.refused_at before after last same f.1),
         )
-    found (Some s) risen at slot e =
+    found (Some s) told at slot e =
         let here : q.node ≡ at = grind arith in
+        let this : s ≡ slot = grind arith in
         let n : 0 ≡ at - node = let w = worked.node in omega (arith, here, is) in (
           (let w = worked.node in omega (arith, here, is)),
-          subst (λ k. HasRefused k (p.refusals ∷ before) (q.refusals ∷ after)) n (omega arith, risen),
+          subst (λ k. IsHeldAt k slot (p.refusals ∷ before) (q.refusals ∷ after) (q.refused_at ∷ last)) n
+              (held_first slot p.refusals q.refusals q.refused_at before after last told.0 (told.1 ∙ ap (λ (x : ℕ). Some x) this)),
         )
 
 pub counted : {L B G : Type 0} (node : ℕ) (before after : List (Assignment L B G)) → AreFrom node before → AreAfterWork before after
-    → AreCounted node (counts_of before) (counts_of after) (first_refused after)
+    → AreCounted node (counts_of before) (counts_of after) (slots_of after) (first_refused after)
 counted node [] [] from h = record { fell = none_fell [] [] refl; passed = λ none. refl; found = λ at slot e. absurd (grind arith) }
 counted node [] (y ∷ ys) from h = absurd (let e = h.len in omega arith)
 counted node (x ∷ xs) [] from h = absurd (let e = h.len in omega arith)
@@ -202,7 +233,7 @@ counted node (Bus s ∷ xs) (Bus t ∷ ys) from h = counted node xs ys from (tai
 counted node (Bus s ∷ xs) (Node q ∷ ys) from h = absurd (heads (Bus s) (Node q) xs ys h)
 counted node (Node p ∷ xs) (Bus t ∷ ys) from h = absurd (heads (Node p) (Bus t) xs ys h)
 counted node (Node p ∷ xs) (Node q ∷ ys) from h =
-    counted_more node p q (counts_of xs) (counts_of ys) (first_refused ys) from.0 (heads (Node p) (Node q) xs ys h)
+    counted_more node p q (counts_of xs) (counts_of ys) (slots_of ys) (first_refused ys) from.0 (heads (Node p) (Node q) xs ys h)
     (counted (node + 1) xs ys from.1 (tails (Node p) (Node q) xs ys h))
 
 pub bus_stays : {L B G : Type 0} (before after : List (Assignment L B G)) → AreAfterWork before after → has_bus after ≡ has_bus before
@@ -223,6 +254,11 @@ counts_stay (Bus s ∷ xs) (Node q ∷ ys) h = absurd (heads (Bus s) (Node q) xs
 counts_stay (Node p ∷ xs) (Bus t ∷ ys) h = absurd (heads (Node p) (Bus t) xs ys h)
 counts_stay (Node p ∷ xs) (Node q ∷ ys) h = ap suc (counts_stay xs ys (tails (Node p) (Node q) xs ys h))
 
+slots_count : {L B G : Type 0} (assignments : List (Assignment L B G)) → length (slots_of assignments) ≡ length (counts_of assignments)
+slots_count [] = refl
+slots_count (Bus seat ∷ assignments) = slots_count assignments
+slots_count (Node assignment ∷ assignments) = ap suc (slots_count assignments)
+
 -- ---- from the first assignment to the last gate that went back
 
 -- a slice of all items of a vector
@@ -234,24 +270,45 @@ slice_whole n xs rest len = ap (λ k. take k (xs ++ drop (length xs) rest)) (sym
     front (y ∷ ys) zs = λ i. y ∷ (front ys zs) i
 
 -- where the gates that went back stand behind the others, and are turned to the front
-turned : (all front back : List ℕ) (n : ℕ) → all ≡ back ++ front → length front ≡ n → drop (length all - n) all ++ take (length all - n) all ≡ front ++ back
-turned all front back n e len =
+turned : {X : Type 0} (all front back : List X) (n : ℕ) → all ≡ back ++ front → length front ≡ n → drop (length all - n) all ++ take (length all - n) all ≡ front ++ back
+turned {X} all front back n e len =
     let long : length (back ++ front) ≡ length back + length front = length-append back front in
     let m : length all - n ≡ length back = let l = ap length e in omega (arith, long, len) in
-    ap (λ k. drop k all ++ take k all) m ∙ ap (λ (xs : List ℕ). drop (length back) xs ++ take (length back) xs) e
-    ∙ ap (λ (xs : List ℕ). xs ++ take (length back) (back ++ front)) (drop_front back front) ∙ ap (λ (xs : List ℕ). front ++ xs) (take_front back front)
+    ap (λ k. drop k all ++ take k all) m ∙ ap (λ (xs : List X). drop (length back) xs ++ take (length back) xs) e
+    ∙ ap (λ (xs : List X). xs ++ take (length back) (back ++ front)) (drop_front back front) ∙ ap (λ (xs : List X). front ++ xs) (take_front back front)
   where
-    drop_front : (xs ys : List ℕ) → drop (length xs) (xs ++ ys) ≡ ys
+    drop_front : (xs ys : List X) → drop (length xs) (xs ++ ys) ≡ ys
     drop_front [] ys = refl
     drop_front (x ∷ xs) ys = drop_front xs ys
 
-    take_front : (xs ys : List ℕ) → take (length xs) (xs ++ ys) ≡ xs
+    take_front : (xs ys : List X) → take (length xs) (xs ++ ys) ≡ xs
     take_front [] ys = refl
-    take_front (x ∷ xs) ys = ap (λ (zs : List ℕ). x ∷ zs) (take_front xs ys)
+    take_front (x ∷ xs) ys = ap (λ (zs : List X). x ∷ zs) (take_front xs ys)
 
-of_node : {P : ℕ → Type 0} (o : Option (ℕ × ℕ)) → ((at slot : ℕ) → o ≡ Some (at, slot) → P at) → IfSome o (λ found. P found.0)
-of_node None f = tt
-of_node (Some x) f = f x.0 x.1 refl
+-- what a function gives at gates that went behind others and were turned to the front
+turned_map : {X Y : Type 0} (f : X → Y) (others back new : List X) (front : List Y) (n : ℕ) → length front ≡ n → map f back ≡ map f others ++ front
+    → new ≡ drop (length back - n) back ++ take (length back - n) back → map f new ≡ front ++ map f others
+turned_map {X} {Y} f others back new front n len came turn =
+    let same : length (map f back) ≡ length back = length-map back f in
+    ap (λ (xs : List X). map f xs) turn ∙ map-append f (drop (length back - n) back) (take (length back - n) back)
+    ∙ ap (λ (ys : List Y). ys ++ map f (take (length back - n) back)) (map_drop (length back - n) back)
+    ∙ ap (λ (ys : List Y). drop (length back - n) (map f back) ++ ys) (map_take (length back - n) back)
+    ∙ ap (λ k. drop (k - n) (map f back) ++ take (k - n) (map f back)) (sym same)
+    ∙ turned (map f back) front (map f others) n came len
+  where
+    map_drop : (k : ℕ) (xs : List X) → map f (drop k xs) ≡ drop k (map f xs)
+    map_drop zero xs = refl
+    map_drop (suc k) [] = refl
+    map_drop (suc k) (x ∷ xs) = map_drop k xs
+
+    map_take : (k : ℕ) (xs : List X) → map f (take k xs) ≡ take k (map f xs)
+    map_take zero xs = refl
+    map_take (suc k) [] = refl
+    map_take (suc k) (x ∷ xs) = ap (λ (ys : List Y). f x ∷ ys) (map_take k xs)
+
+of_held : {P : (at slot : ℕ) → Type 0} (o : Option (ℕ × ℕ)) → ((at slot : ℕ) → o ≡ Some (at, slot) → P at slot) → IfSome o (λ found. P found.0 found.1)
+of_held None f = tt
+of_held (Some x) f = f x.0 x.1 refl
 
 -- a pass that was refused is that of one of the nodes
 pub held_within : {L B G : Type 0} (before after : List (Assignment L B G)) (held : Option (ℕ × ℕ)) (n : ℕ) → AreFrom 0 before → AreAfterWork before after
@@ -259,49 +316,41 @@ pub held_within : {L B G : Type 0} (before after : List (Assignment L B G)) (hel
 held_within before after held n from h count is =
     let so = counted 0 before after from h in
     let len = so.fell.len in
-    of_node held (λ at slot e. let below = (so.found at slot (sym is ∙ e)).1.0 in omega (arith, below, len, count))
+    of_held held (λ at slot e. let below = (so.found at slot (sym is ∙ e)).1.refused.0 in omega (arith, below, len, count))
 
-outcome_of : {L B G : Type 0} (before after : List (Assignment L B G)) (old others new : List ℕ) (held : Option (ℕ × ℕ)) → AreFrom 0 before → AreAfterWork before after
-    → counts_of before ++ others ≡ old → new ≡ counts_of after ++ others → held ≡ first_refused after → IsOutcome old new held
-outcome_of before after old others new held from h was now is =
+outcome_of : {L B G : Type 0} (before after : List (Assignment L B G)) (old others new : List ℕ) (last others_last : List (Option ℕ)) (held : Option (ℕ × ℕ)) → AreFrom 0 before
+    → AreAfterWork before after → counts_of before ++ others ≡ old → new ≡ counts_of after ++ others → last ≡ slots_of after ++ others_last → held ≡ first_refused after
+    → IsOutcome old new last held
+outcome_of before after old others new last others_last held from h was now at is =
     let so = counted 0 before after from h in
     let len = so.fell.len in
-    let with_old : IsOutcome (counts_of before ++ others) (counts_of after ++ others) held = record {
+    let with_old : IsOutcome (counts_of before ++ others) (counts_of after ++ others) (slots_of after ++ others_last) held = record {
       fell = fell_with (counts_of before) (counts_of after) others so.fell;
       passed = passed held (λ none. ap (λ (c : List ℕ). c ++ others) (so.passed (sym is ∙ none)));
-      refused = of_node held (λ at slot e.
-          let f = so.found at slot (sym is ∙ e) in
-          refused_with at (counts_of before) (counts_of after) others len (subst (λ k. HasRefused k (counts_of before) (counts_of after)) (let le = f.0 in omega arith) f.1));
+      refused = of_held held (λ node slot e.
+          let f = so.found node slot (sym is ∙ e) in
+          held_with node slot (counts_of before) (counts_of after) others (slots_of after) others_last len
+          (subst (λ k. IsHeldAt k slot (counts_of before) (counts_of after) (slots_of after)) (let le = f.0 in omega arith) f.1));
     } in
-    subst (λ (c : List ℕ). IsOutcome old c held) (sym now) (subst (λ (c : List ℕ). IsOutcome c (counts_of after ++ others) held) was with_old)
+    subst (λ (c : List (Option ℕ)). IsOutcome old new c held) (sym at)
+    (subst (λ (c : List ℕ). IsOutcome old c (slots_of after ++ others_last) held) (sym now)
+    (subst (λ (c : List ℕ). IsOutcome c (counts_of after ++ others) (slots_of after ++ others_last) held) was with_old))
   where
     passed : {P : Type 0} (o : Option (ℕ × ℕ)) → (o ≡ None → P) → IfNone o P
     passed None f = f refl
     passed (Some x) f = tt
 
 -- the gates went behind the others and were turned to the front
-pub outcome_is : {L B G X : Type 0} (refusals : X → ℕ) (before after : List (Assignment L B G)) (old others back new : List X) (held : Option (ℕ × ℕ)) (n : ℕ)
+pub outcome_is : {L B G X : Type 0} (refusals : X → ℕ) (refused_at : X → Option ℕ) (before after : List (Assignment L B G)) (old others back new : List X) (held : Option (ℕ × ℕ)) (n : ℕ)
     → AreFrom 0 before → AreAfterWork before after → length (counts_of before) ≡ n
-    → counts_of before ++ map refusals others ≡ map refusals old → map refusals back ≡ map refusals others ++ counts_of after
-    → new ≡ drop (length back - n) back ++ take (length back - n) back → held ≡ first_refused after → IsOutcome (map refusals old) (map refusals new) held
-outcome_is {X = X} refusals before after old others back new held n from h count was came turn is =
+    → counts_of before ++ map refusals others ≡ map refusals old
+    → map refusals back ≡ map refusals others ++ counts_of after → map refused_at back ≡ map refused_at others ++ slots_of after
+    → new ≡ drop (length back - n) back ++ take (length back - n) back → held ≡ first_refused after
+    → IsOutcome (map refusals old) (map refusals new) (map refused_at new) held
+outcome_is refusals refused_at before after old others back new held n from h count was came slots turn is =
     let so = counted 0 before after from h in
     let len : length (counts_of after) ≡ n = so.fell.len ∙ count in
-    let same : length (map refusals back) ≡ length back = length-map back refusals in
-    let now : map refusals new ≡ counts_of after ++ map refusals others =
-    ap (λ (xs : List X). map refusals xs) turn ∙ map-append refusals (drop (length back - n) back) (take (length back - n) back)
-    ∙ ap (λ (xs : List ℕ). xs ++ map refusals (take (length back - n) back)) (map_drop (length back - n) back)
-    ∙ ap (λ (xs : List ℕ). drop (length back - n) (map refusals back) ++ xs) (map_take (length back - n) back)
-    ∙ ap (λ k. drop (k - n) (map refusals back) ++ take (k - n) (map refusals back)) (sym same)
-    ∙ turned (map refusals back) (counts_of after) (map refusals others) n came len in
-    outcome_of before after (map refusals old) (map refusals others) (map refusals new) held from h was now is
-  where
-    map_drop : (k : ℕ) (xs : List X) → map refusals (drop k xs) ≡ drop k (map refusals xs)
-    map_drop zero xs = refl
-    map_drop (suc k) [] = refl
-    map_drop (suc k) (x ∷ xs) = map_drop k xs
-
-    map_take : (k : ℕ) (xs : List X) → map refusals (take k xs) ≡ take k (map refusals xs)
-    map_take zero xs = refl
-    map_take (suc k) [] = refl
-    map_take (suc k) (x ∷ xs) = ap (λ (ns : List ℕ). refusals x ∷ ns) (map_take k xs)
+    outcome_of before after (map refusals old) (map refusals others) (map refusals new) (map refused_at new) (map refused_at others) held from h was
+    (turned_map refusals others back new (counts_of after) n len came turn)
+    (turned_map refused_at others back new (slots_of after) n (slots_count after ∙ len) slots turn)
+    is

@@ -6,7 +6,7 @@ use Rattle.std.proofs.lemmas.Grind.{get_or-set_at}
 use Rattle.std.proofs.lemmas.List.{get_or-set_other, length-map, length-set, map-set, set-get_or}
 use Rattle.cany_io.specs.Faults.{HasRisen}
 use Rattle.cany_command.proofs.PerformedFacts.{rose}
-use Rattle.cany_crew.specs.Gates.{HasAnyRefused, HasRefused, IsOutcome, NoneFell, NoneRefused}
+use Rattle.cany_crew.specs.Gates.{HasAnyRefused, HasRefused, IsHeldAt, IsOutcome, NoneFell, NoneRefused}
 
 -- ---- one count
 
@@ -42,26 +42,28 @@ refused_before node old middle new h refused k = (
 
 -- ---- what it came to
 
-pub outcome_held : (old middle new : List ℕ) (found : ℕ × ℕ) → middle ≡ old → NoneFell middle new → HasRefused found.0 middle new → IsOutcome old new (Some found)
-outcome_held old middle new found same fell refused =
-    subst (λ (counts : List ℕ). IsOutcome counts new (Some found)) same (record { fell = fell; passed = tt; refused = refused })
+pub outcome_held : (old middle new : List ℕ) (last : List (Option ℕ)) (found : ℕ × ℕ) → middle ≡ old → NoneFell middle new → IsHeldAt found.0 found.1 middle new last
+    → IsOutcome old new last (Some found)
+outcome_held old middle new last found same fell refused =
+    subst (λ (counts : List ℕ). IsOutcome counts new last (Some found)) same (record { fell = fell; passed = tt; refused = refused })
 
 -- steps after others of which none was held
-pub outcome_then : (old middle new : List ℕ) (first second : Option (ℕ × ℕ)) → first ≡ None → IsOutcome old middle first → IsOutcome middle new second
-    → IsOutcome old new second
-outcome_then old middle new None second none before after = subst (λ (counts : List ℕ). IsOutcome counts new second) before.passed after
-outcome_then old middle new (Some found) second none before after = absurd (grind arith)
+pub outcome_then : (old middle new : List ℕ) (between last : List (Option ℕ)) (first second : Option (ℕ × ℕ)) → first ≡ None → IsOutcome old middle between first
+    → IsOutcome middle new last second → IsOutcome old new last second
+outcome_then old middle new between last None second none before after = subst (λ (counts : List ℕ). IsOutcome counts new last second) before.passed after
+outcome_then old middle new between last (Some found) second none before after = absurd (grind arith)
 
-pub all_passed : {E : Type 0} (old new : List ℕ) (ending : Result (Option (ℕ × ℕ)) E) → ending ≡ Ok None → IfOk ending (λ held. IsOutcome old new held) → new ≡ old
-all_passed {E} old new ending is outcome =
-    let ended : IsOutcome old new None = subst (λ (e : Result (Option (ℕ × ℕ)) E). IfOk e (λ held. IsOutcome old new held)) is outcome in
+pub all_passed : {E : Type 0} (old new : List ℕ) (last : List (Option ℕ)) (ending : Result (Option (ℕ × ℕ)) E) → ending ≡ Ok None
+    → IfOk ending (λ held. IsOutcome old new last held) → new ≡ old
+all_passed {E} old new last ending is outcome =
+    let ended : IsOutcome old new last None = subst (λ (e : Result (Option (ℕ × ℕ)) E). IfOk e (λ held. IsOutcome old new last held)) is outcome in
     ended.passed
 
-pub any_refused : {E : Type 0} (old new : List ℕ) (ending : Result (Option (ℕ × ℕ)) E) → IsOkAnd ending (λ held. is_some held ≡ true)
-    → IfOk ending (λ held. IsOutcome old new held) → HasAnyRefused old new
-any_refused old new (Ok None) held outcome = absurd (false≢true held)
-any_refused old new (Ok (Some found)) held outcome = (found.0, outcome.refused)
-any_refused old new (Err fault) held outcome = absurd held
+pub any_refused : {E : Type 0} (old new : List ℕ) (last : List (Option ℕ)) (ending : Result (Option (ℕ × ℕ)) E) → IsOkAnd ending (λ held. is_some held ≡ true)
+    → IfOk ending (λ held. IsOutcome old new last held) → HasAnyRefused old new
+any_refused old new last (Ok None) held outcome = absurd (false≢true held)
+any_refused old new last (Ok (Some found)) held outcome = (found.0, outcome.refused.refused)
+any_refused old new last (Err fault) held outcome = absurd held
 
 -- no gate refused where the counts stand
 pub none_rose : (old new : List ℕ) → NoneRefused old new → HasAnyRefused old new → ⊥
@@ -101,6 +103,21 @@ refused_with node xs ys zs len refused = (
     more : (front back : List ℕ) → node < length front → node < length (front ++ back)
     more front back h = let e = length_of front back in omega arith
 
+slot_with : (node slot : ℕ) (last others : List (Option ℕ)) → slice_index_or last node None ≡ Some slot → slice_index_or (last ++ others) node None ≡ Some slot
+slot_with node slot [] others e = absurd (let none : None ≡ Some slot = e in cc)
+slot_with zero slot (x ∷ last) others e = e
+slot_with (suc node) slot (x ∷ last) others e = slot_with node slot last others e
+
+pub held_with : (node slot : ℕ) (xs ys zs : List ℕ) (last others : List (Option ℕ)) → length ys ≡ length xs → IsHeldAt node slot xs ys last
+    → IsHeldAt node slot (xs ++ zs) (ys ++ zs) (last ++ others)
+held_with node slot xs ys zs last others len held = record {
+  refused = refused_with node xs ys zs len held.refused;
+  slot_is = slot_with node slot last others held.slot_is;
+  least = λ lesser less.
+      let within = held.refused.0 in
+      front_index ys zs lesser (omega (arith, within, less)) ∙ held.least lesser less ∙ sym (front_index xs zs lesser (omega (arith, within, less, len)));
+}
+
 -- ---- one gate was asked
 
 count_at : {X : Type 0} (refusals : X → ℕ) (gates : List X) (i : ℕ) (d : X) → i < length gates
@@ -126,19 +143,34 @@ asked_refused counts i new within risen =
 pub asked_same : (counts : List ℕ) (i new : ℕ) → new ≡ slice_index counts i → slice_set counts i new ≡ counts
 asked_same counts i new e = ap (λ n. slice_set counts i n) e ∙ set-get_or counts i 0
 
--- the counts before and after one gate was asked
-pub record IsAsked {X : Type 0} (refusals : X → ℕ) (gates : List X) (node : ℕ) (gate after : X) (new : List X) : Type 0 where
+asked_others : (counts : List ℕ) (i new : ℕ) (lesser : ℕ) → lesser < i → slice_index (slice_set counts i new) lesser ≡ slice_index counts lesser
+asked_others counts i new lesser less = get_or-set_other counts i lesser new 0 (λ same. omega (arith, less, same))
+
+-- the counts before and after one gate was asked, and the slot of the last pass that it refused
+pub record IsAsked {X : Type 0} (refusals : X → ℕ) (refused_at : X → Option ℕ) (gates : List X) (node : ℕ) (gate after : X) (new : List X) : Type 0 where
   pub counts : map refusals new ≡ slice_set (map refusals gates) node (refusals after)
   pub before : slice_index (map refusals gates) node ≡ refusals gate
   pub within : node < length (map refusals gates)
+  pub slot : slice_index_or (map refused_at new) node None ≡ refused_at after
 
-pub asked : {X : Type 0} (refusals : X → ℕ) (gates : List X) (node i : ℕ) (d after : X) → i ≡ node → node < length gates
-    → IsAsked refusals gates node (slice_index_or gates i d) after (slice_set gates i after)
-asked refusals gates node i d after e within = record {
+pub asked : {X : Type 0} (refusals : X → ℕ) (refused_at : X → Option ℕ) (gates : List X) (node i : ℕ) (d after : X) → i ≡ node → node < length gates
+    → IsAsked refusals refused_at gates node (slice_index_or gates i d) after (slice_set gates i after)
+asked refusals refused_at gates node i d after e within = record {
   counts = map-set refusals gates i after ∙ ap (λ k. slice_set (map refusals gates) k (refusals after)) e;
   before = ap (λ k. slice_index (map refusals gates) k) (sym e) ∙ count_at refusals gates i d (omega (arith, e));
   within = omega (arith, length-map gates refusals);
+  slot = ap (λ (slots : List (Option ℕ)). slice_index_or slots node None) (map-set refused_at gates i after)
+      ∙ get_or-set_at (map refused_at gates) i node (refused_at after) None (sym e) (omega (arith, e, length-map gates refused_at));
 }
+
+pub asked_held : (node slot new : ℕ) (counts after : List ℕ) (last : List (Option ℕ)) → node < length counts → HasRisen (slice_index counts node) new
+    → after ≡ slice_set counts node new → slice_index_or last node None ≡ Some slot → IsHeldAt node slot counts after last
+asked_held node slot new counts after last within risen e at =
+    subst (λ (now : List ℕ). IsHeldAt node slot counts now last) (sym e) (record {
+      refused = asked_refused counts node new within risen;
+      slot_is = at;
+      least = asked_others counts node new;
+    })
 
 -- ---- gates that count nothing
 

@@ -11,6 +11,12 @@ counts_of [] = []
 counts_of (Bus seat ∷ assignments) = counts_of assignments
 counts_of (Node assignment ∷ assignments) = assignment.refusals ∷ counts_of assignments
 
+-- for which slots the gates at the assignments refused a pass last
+abbrev pub slots_of : {L B G : Type 0} → List (Assignment L B G) → List (Option ℕ)
+slots_of [] = []
+slots_of (Bus seat ∷ assignments) = slots_of assignments
+slots_of (Node assignment ∷ assignments) = assignment.refused_at ∷ slots_of assignments
+
 -- whether the assignment of the bus is one of them
 abbrev pub has_bus : {L B G : Type 0} → List (Assignment L B G) → Bool
 has_bus [] = false
@@ -38,7 +44,7 @@ first_refused (Node assignment ∷ assignments) = refused_or assignment.node ass
 -- the assignment of the same node, whose gate was asked until it refused a pass, or refused none
 pub record IsWorked (before after : AssignmentParts) : Type 0 where
   pub node : after.node ≡ before.node
-  pub gate : CountsRefusal before.refusals after.refused after.refusals
+  pub gate : CountsRefusal before.refusals after.refused after.refusals after.refused_at
 
 -- what the work makes of an assignment
 abbrev pub IsAfterWork : {L B G : Type 0} → Assignment L B G → Assignment L B G → Type 0

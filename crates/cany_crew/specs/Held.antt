@@ -4,9 +4,9 @@ use Rattle.cany_world.specs.World.{WorldParts}
 use Rattle.cany_crew.specs.declared.crew.CrewFault.{CrewFault}
 use Rattle.cany_crew.specs.declared.crew.CrewFault.TheVariants.{Held, Memory}
 
--- the fact holds of the node whose pass was refused; want of memory says nothing
-abbrev pub IfHeld : CrewFault → (ℕ → Type 0) → Type 0
-IfHeld (Held world node slot) Fact = Fact node
+-- the fact holds of the node and the slot of the pass that was refused; want of memory says nothing
+abbrev pub IfHeld : CrewFault → ((node slot : ℕ) → Type 0) → Type 0
+IfHeld (Held world node slot) Fact = Fact node slot
 IfHeld (Memory world) Fact = Unit {0}
 
 -- the fact holds of the world for which there was no memory; a refusal says nothing

@@ -1,7 +1,7 @@
 //! Seats and gates are moved to assignments before the work, and back after it.
 ghost use Rattle.std.specs.Prelude.{◌≡◌, ◌≤◌, ◌<◌, ◌+◌, ◌++◌, [], map, length, true, IfOk, vec_len, vec_capacity};
 ghost use Rattle.cany_base.specs.Limits.{most_nodes};
-ghost use Rattle.cany_crew.specs.Assignments.{AreFrom, counts_of, first_refused, has_bus};
+ghost use Rattle.cany_crew.specs.Assignments.{AreFrom, counts_of, first_refused, has_bus, slots_of};
 ghost use Rattle.cany_yard.specs.Seats.{AreFirstSeats};
 
 use crate::assignment::{Assignment, NodeAssignment};
@@ -91,6 +91,7 @@ pub(crate) fn empty_assignments<L: Course, B: Ledger, G: Gate>(
     requires seats { vec_len seats.old + length (counts_of assignments.items) ≤ vec_capacity seats.old }
     requires gates { vec_len gates.old + length (counts_of assignments.items) ≤ vec_capacity gates.old }
     ensures gates { map G.refusals gates.new.items ≡ map G.refusals gates.old.items ++ counts_of assignments.items }
+    ensures slots { map G.refused_at gates.new.items ≡ map G.refused_at gates.old.items ++ slots_of assignments.items }
     ensures seats { vec_len seats.new ≡ vec_len seats.old + length (counts_of assignments.items) }
 {
     let mut of_bus = None;

@@ -23,7 +23,7 @@ impl<L: Course, B: Ledger, G: Gate> Model for NodeAssignment<L, B, G> {
 
     ghost Value = { AssignmentParts };
 
-    ghost view = { λ assignment. record { node = assignment.node; refusals = G.refusals assignment.gate; refused = assignment.refused } };
+    ghost view = { λ assignment. record { node = assignment.node; refusals = G.refusals assignment.gate; refused_at = G.refused_at assignment.gate; refused = assignment.refused } };
 
     ghost invariant = { λ assignment. assignment.seat.node ≡ assignment.node };
 }
@@ -32,7 +32,7 @@ impl<L: Course, B: Ledger, G: Gate> NodeAssignment<L, B, G> {
     /// The assignment before the work.
     pub(crate) fn new(node: NodeId, seat: Seat<L, B>, gate: G) -> NodeAssignment<L, B, G>
         requires { seat.node ≡ node }
-        ensures { result ≡ record { node = node; refusals = G.refusals gate; refused = None } }
+        ensures { result ≡ record { node = node; refusals = G.refusals gate; refused_at = G.refused_at gate; refused = None } }
     {
         NodeAssignment {
             node,

@@ -2,7 +2,7 @@
 ghost use Rattle.std.specs.Prelude.{◌≡◌, ◌<◌, ◌≤◌, ◌+◌, [], map, IfOk, IfErr, IfSome, IfNone, vec_len, vec_capacity};
 ghost use Rattle.cany_base.specs.Limits.{most_nodes};
 ghost use Rattle.cany_crew.specs.Ending.{IsEnding};
-ghost use Rattle.cany_crew.specs.Gates.{HasRefused, IsOutcome, NoneFell};
+ghost use Rattle.cany_crew.specs.Gates.{IsHeldAt, IsOutcome, NoneFell};
 ghost use Rattle.cany_crew.specs.Held.{IfHeld, IfMemory, world_of};
 ghost use Rattle.cany_model.specs.Runs.Run.{IsLegal, IsWhole};
 ghost use Rattle.cany_yard.specs.Seats.{AreFirstSeats};
@@ -26,8 +26,7 @@ use std::thread::Threads;
 /// Why a run did not end. The world is handed back.
 #[derive(Drop)]
 pub enum CrewFault {
-    /// The gate of the node refused the turn that was to read this slot or, after a restart, a
-    /// later one.
+    /// The gate of the node refused the pass for this slot. No lesser node's count rose.
     Held {
         world: World,
         node: NodeId,
@@ -59,7 +58,7 @@ fn run_yard<R: Threads + Wait + Sync, L: Course + Send + Sync, B: Ledger + Send 
     ensures scenario { result.0.scenario ≡ L.scenario }
     ensures ended { IfNone result.1 (IsLegal result.0.scenario result.0.journal × IsWhole result.0.scenario result.0.journal) }
     ensures node { IfSome result.1 (λ found. found.0 < L.scenario.params.nodes) }
-    ensures outcome { IsOutcome (map G.refusals gates.old.items) (map G.refusals gates.new.items) result.1 }
+    ensures outcome { IsOutcome (map G.refusals gates.old.items) (map G.refusals gates.new.items) (map G.refused_at gates.new.items) result.1 }
 {
     let signals = Signals::new();
     let work = Work {
@@ -92,7 +91,7 @@ fn run_as<R: Threads + Wait + Sync, L: Course + Send + Sync, B: Ledger + Send + 
     requires course { world.scenario ≡ L.scenario }
     requires turns { (turns.name ≡ L.name) × (turns.parts ≡ L.parts) × (turns.parts ≡ world.scenario.params.nodes) }
     requires slots { (slots.name ≡ B.name) × (slots.parts ≡ B.parts) × (slots.parts ≡ 1) }
-    ensures { IsEnding (map G.refusals gates.old.items) (map G.refusals gates.new.items) world result.0 result.1 }
+    ensures { IsEnding (map G.refusals gates.old.items) (map G.refusals gates.new.items) (map G.refused_at gates.new.items) world result.0 result.1 }
 {
     let nodes = nodes_of(world.scenario());
     let most_slots = world.scenario().params().slots;
@@ -119,7 +118,7 @@ pub(crate) fn run_crew<R: Threads + Wait + Sync, G: Gate>(
 ) -> (World, Result<Option<(NodeId, Slot)>, Memory>)
     requires fresh { world.journal ≡ [] }
     requires gates { world.scenario.params.nodes ≤ vec_len gates.old }
-    ensures { IsEnding (map G.refusals gates.old.items) (map G.refusals gates.new.items) world result.0 result.1 }
+    ensures { IsEnding (map G.refusals gates.old.items) (map G.refusals gates.new.items) (map G.refused_at gates.new.items) world result.0 result.1 }
 {
     let turns = Blank::new(u64::from(nodes_of(world.scenario())));
     run_as::<R, Brand, Brand, G>(rt, alloc, turns, Blank::new(1), world, gates)
@@ -129,11 +128,14 @@ pub(crate) fn run_crew<R: Threads + Wait + Sync, G: Gate>(
 /// gate at place i is that of node i, and after the call the counts of the gates stand at their old
 /// places.
 ///
-/// The worker of a node asks its gate before the turn of each slot, outside the lock. After a
-/// refusal each worker ends at its next step, and `Held` names the least node whose pass was
-/// refused. A worker that has waited two seconds for a step of another ends too, as it may while a
-/// gate takes longer to answer. The steps that the workers have left are made after them, and ask
-/// the gates too. The call may wait for its threads, which may wait for one another at the lock.
+/// `Held` names the least node whose gate's count rose, and the slot of the last pass that this
+/// gate refused.
+///
+/// How the threads go on is no part of the contract. The worker of a node asks its gate before the
+/// turn of each slot, outside the lock. After a refusal each worker ends at its next step. A worker
+/// that has waited two seconds for a step of another ends too, as it may while a gate takes longer
+/// to answer. The steps that the workers have left are made after them, and ask the gates too. The
+/// call may wait for its threads, which may wait for one another at the lock.
 ///
 /// Promise: the world that is answered has the same scenario and has run to its end, by a legal and
 /// whole journal; each gate's count is as it was. In any case there are as many gates as before,
@@ -145,8 +147,9 @@ pub(crate) fn run_crew<R: Threads + Wait + Sync, G: Gate>(
 ///
 /// # Errors
 ///
-/// `Held` only where the count of the gate of the node that it names rose; the world that is handed
-/// back has the same scenario. `Memory`: out of memory. The world is handed back as it was.
+/// `Held` only where the count of the gate of the node that it names rose. The slot is that of the
+/// last pass which this gate refused, and no lesser node's count rose. The world that is handed back
+/// has the same scenario. `Memory`: out of memory. The world is handed back as it was.
 pub fn crew_run<R: Threads + Wait + Sync, G: Gate>(
     rt: &R,
     alloc: Global,
@@ -160,11 +163,12 @@ pub fn crew_run<R: Threads + Wait + Sync, G: Gate>(
     ensures scenario { IfOk result (λ ended. ended.scenario ≡ world.scenario) }
     ensures ended { IfOk result (λ ended. IsLegal ended.scenario ended.journal × IsWhole ended.scenario ended.journal) }
 
-    // No gate's count rose in a run that ended, and that of the node named, one of the bus, rose in
-    // one that is held.
+    // No gate's count rose in a run that ended. In one that is held that of the node named, one of
+    // the bus, rose, the slot is that of the last pass that it refused, and no lesser node's rose.
     ensures passed { IfOk result (λ _. map G.refusals gates.new.items ≡ map G.refusals gates.old.items) }
-    ensures node { IfErr result (λ fault. IfHeld fault (λ node. node < world.scenario.params.nodes)) }
-    ensures held { IfErr result (λ fault. IfHeld fault (λ node. HasRefused node (map G.refusals gates.old.items) (map G.refusals gates.new.items))) }
+    ensures node { IfErr result (λ fault. IfHeld fault (λ node _. node < world.scenario.params.nodes)) }
+    ensures held { IfErr result (λ fault. IfHeld fault (λ node slot.
+        IsHeldAt node slot (map G.refusals gates.old.items) (map G.refusals gates.new.items) (map G.refused_at gates.new.items))) }
     ensures count { NoneFell (map G.refusals gates.old.items) (map G.refusals gates.new.items) }
 
     // What is handed back.

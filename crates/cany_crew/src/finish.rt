@@ -3,7 +3,7 @@ ghost use Rattle.std.specs.Prelude.{◌≡◌, ◌<◌, ◌≤◌, ◌∷◌, �
 ghost use Rattle.cany_crew.specs.Gates.{IsOutcome};
 ghost use Rattle.cany_model.specs.Runs.RoundRobin.{is_to_read};
 ghost use Rattle.cany_model.specs.Runs.Run.{IsLegal, IsWhole, is_done, reply};
-ghost use Rattle.cany_model.specs.Bus.State.{node_at};
+ghost use Rattle.cany_model.specs.Bus.State.{node_at, reads};
 ghost use Rattle.cany_world.specs.World.{state_of};
 
 use crate::gate::{Gate, ask};
@@ -54,13 +54,15 @@ fn next_step(world: &World) -> Option<Step>
 }
 
 /// Makes the steps that are left until the world has ended, and asks the node's gate before each
-/// turn. Stops at the first pass that is refused, and gives its node and its slot.
+/// turn. Stops at the first pass that is refused, and gives its node and its slot, the one that the
+/// node is to read next.
 pub(crate) fn finish<G: Gate>(world: &mut World, gates: &mut Vec<G>) -> Option<(NodeId, Slot)>
     requires { world.old.scenario.params.nodes ≤ vec_len gates.old }
     ensures scenario { world.new.scenario ≡ world.old.scenario }
     ensures ended { IfNone result (IsLegal world.new.scenario world.new.journal × IsWhole world.new.scenario world.new.journal) }
     ensures node { IfSome result (λ found. found.0 < world.old.scenario.params.nodes) }
-    ensures outcome { IsOutcome (map G.refusals gates.old.items) (map G.refusals gates.new.items) result }
+    ensures next { IfSome result (λ found. found.1 ≡ reads (state_of world.new) found.0) }
+    ensures outcome { IsOutcome (map G.refusals gates.old.items) (map G.refusals gates.new.items) (map G.refused_at gates.new.items) result }
 {
     while let Some(step) = next_step(world) {
         if let Step::Turn(node) = step {

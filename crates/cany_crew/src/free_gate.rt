@@ -18,9 +18,11 @@ use std::thread::Threads;
 pub struct FreeGate;
 
 impl Gate for FreeGate {
-    ghost use Rattle.std.specs.Prelude.{ℕ};
+    ghost use Rattle.std.specs.Prelude.{ℕ, None};
 
     ghost refusals = { λ gate. 0 };
+
+    ghost refused_at = { λ gate. None };
 
     fn pass(&mut self, _node: NodeId, _slot: Slot) -> bool
         ensures { result ≡ true }

@@ -1,5 +1,5 @@
-ghost use Rattle.std.specs.Prelude.{◌≡◌, ℕ, ◌<◌, ◌≤◌, true, false, map, length};
-ghost use Rattle.cany_crew.specs.Gates.{HasRefused, NoneFell};
+ghost use Rattle.std.specs.Prelude.{◌≡◌, ℕ, ◌<◌, ◌≤◌, Option, Some, true, false, map, length};
+ghost use Rattle.cany_crew.specs.Gates.{IsHeldAt, NoneFell};
 ghost use Rattle.cany_io.specs.Faults.{HasRisen};
 
 use cany_base::{NodeId, Slot};
@@ -11,10 +11,14 @@ pub trait Gate: Send + Drop {
     /// bits.
     ghost refusals: { Self → ℕ };
 
+    /// For which slot a pass was refused last.
+    ghost refused_at: { Self → Option ℕ };
+
     /// Whether the node may take its next turn, the one that reads this slot or, after a restart, a
     /// later one. The gate may take its time before it answers.
     ///
-    /// Promise: the count never falls. It stays as it was where the pass is granted.
+    /// Promise: the count never falls. It stays as it was where the pass is granted. Where the pass
+    /// is refused, its slot is noted as the last that was refused.
     ///
     /// Answers: true only where the count stayed as it was. false only where the count rose.
     ///
@@ -23,14 +27,16 @@ pub trait Gate: Send + Drop {
     fn pass(&mut self, node: NodeId, slot: Slot) -> bool
         ensures count { refusals self.old ≤ refusals self.new }
         ensures passed { result ≡ true → refusals self.new ≡ refusals self.old }
-        ensures refused { result ≡ false → HasRisen (refusals self.old) (refusals self.new) };
+        ensures refused { result ≡ false → HasRisen (refusals self.old) (refusals self.new) }
+        ensures slot { result ≡ false → refused_at self.new ≡ Some slot };
 }
 
 /// Asks the gate of the node.
 pub(crate) fn ask<G: Gate>(gates: &mut [G], node: NodeId, slot: Slot) -> bool
     requires { node < length gates.old }
     ensures passed { result ≡ true → map G.refusals gates.new ≡ map G.refusals gates.old }
-    ensures refused { result ≡ false → HasRefused node (map G.refusals gates.old) (map G.refusals gates.new) }
+    ensures refused { result ≡ false →
+        IsHeldAt node slot (map G.refusals gates.old) (map G.refusals gates.new) (map G.refused_at gates.new) }
     ensures count { NoneFell (map G.refusals gates.old) (map G.refusals gates.new) }
 {
     let gate = &mut gates[usize::from(node.get())];

@@ -45,7 +45,7 @@ pub(crate) fn work_seats<
     requires gates { vec_len seats ≤ vec_len gates.old }
     ensures seats { vec_len result.seats ≡ vec_len seats }
     ensures node { IfSome result.held (λ found. found.0 < vec_len seats) }
-    ensures outcome { IsOutcome (map G.refusals gates.old.items) (map G.refusals gates.new.items) result.held }
+    ensures outcome { IsOutcome (map G.refusals gates.old.items) (map G.refusals gates.new.items) (map G.refused_at gates.new.items) result.held }
 {
     let Rooms {
         mut assignments,

@@ -78,7 +78,7 @@ fn take_turns<L: Course, B: Ledger, G: Gate, R: Wait>(
     gate: &mut G,
 ) -> Option<Slot>
     ensures node { seat.new.node ≡ seat.old.node }
-    ensures gate { CountsRefusal (G.refusals gate.old) result (G.refusals gate.new) }
+    ensures gate { CountsRefusal (G.refusals gate.old) result (G.refusals gate.new) (G.refused_at gate.new) }
 {
     // The slot after the last that was read.
     let mut next: Slot = 0;

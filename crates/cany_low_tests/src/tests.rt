@@ -1,3 +1,4 @@
+mod arbitration;
 mod frames;
 mod plain;
 mod streams;

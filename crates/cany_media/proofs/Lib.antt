@@ -1,8 +1,11 @@
 pub mod LegalFacts
 pub mod LevelFacts
+pub mod LevelRows
 pub mod MediaRuns
+pub mod OutcomeRows
 pub mod OverlapFacts
 pub mod PlanFacts
+pub mod PlanRows
 pub mod RulesAside
 pub mod Scripts
 pub mod StretchFacts

@@ -1,4 +1,5 @@
 pub mod AgreementFacts
+pub mod AgreementRows
 pub mod FoldFacts
 pub mod Rows
 pub mod TextFacts

@@ -1,5 +1,5 @@
 -- Worked rows: the texts of two runs, computed from the definitions.
-use Rattle.std.specs.Prelude.{ℕ, ◌≡◌, List, [], ◌∷◌, Option, None, Some, codes, refl}
+use Rattle.std.specs.Prelude.{ℕ, ◌≡◌, List, [], ◌∷◌, Option, None, Some, codes, map, refl}
 use Rattle.std.specs.Fmt.{digits}
 use Rattle.std.specs.List.{concat}
 use Rattle.cany_base.specs.declared.message.SendAsk.{SendAsk}
@@ -7,11 +7,12 @@ use Rattle.cany_base.specs.declared.message.Service.TheVariants.{Ed, Tot}
 use Rattle.cany_base.specs.Params.{default_parameters}
 use Rattle.cany_base.specs.Scenario.{ScenarioParts}
 use Rattle.cany_model.proofs.RowWords.{run_words, scenario_of, send}
+use Rattle.cany_model.specs.Promises.Order.{Content}
 use Rattle.cany_model.specs.Runs.RoundRobin.{round_robin}
 use Rattle.cany_text.specs.ReportLines.{hypothesis_line, line_of, payload_text}
 use Rattle.cany_replica.specs.declared.reply.Reply.{Reply}
 use Rattle.cany_replica.specs.declared.reply.Reply.TheVariants.{Stored, Removed, Absent, Swapped, Kept, Ignored}
-use Rattle.cany_replica.specs.Fold.{replies_after, table_after}
+use Rattle.cany_replica.specs.Fold.{replies_after, replies_of, table_after, table_of}
 use Rattle.cany_replica.specs.ReplicaText.{first_line, key_line, key_lines, last_line, node_line, node_lines, replica_lines, replica_text, reply_line, reply_name}
 use Rattle.cany_replica.specs.Table.{apply, change_of, empty_table, make_change, value_at}
 
@@ -108,6 +109,11 @@ removes : after (2 ∷ 5 ∷ []) ≡ record { reply = Removed; five = None; six 
 unfolding after
 removes = refl
 
+-- a value of no bytes is one too
+removes_no_bytes : after (2 ∷ 6 ∷ []) ≡ record { reply = Removed; five = Some (170 ∷ []); six = None }
+unfolding after
+removes_no_bytes = refl
+
 removes_nothing : after (2 ∷ 7 ∷ []) ≡ record { reply = Absent; five = Some (170 ∷ []); six = Some [] }
 unfolding after
 removes_nothing = refl
@@ -127,3 +133,36 @@ ignores :
     ≡ ignored ∷ ignored ∷ ignored ∷ ignored ∷ ignored ∷ ignored ∷ ignored ∷ []
 unfolding after ignored
 ignores = refl
+
+-- ---- several changes of one key
+
+-- the replies to these payloads, one after another from the empty table, and the value that key 5
+-- has at the end
+record Replied : Type 0 where
+  replies : List Reply
+  five : Option (List ℕ)
+
+abbrev message_of : List ℕ → Content
+message_of payload = record { msg = record { origin = 0; seq = 0 }; payload = payload }
+
+unfoldable replied : List (List ℕ) → Replied
+unfolding table_after replies_after change_of make_change
+replied payloads = record { replies = map (λ answer. answer.reply) (replies_of (map message_of payloads)); five = value_at (table_of (map message_of payloads)) 5 }
+
+-- a swap asks for exactly one byte: that of a longer value, its first or its last one, is none
+swaps_no_part : replied ((1 ∷ 5 ∷ 170 ∷ 187 ∷ []) ∷ (3 ∷ 5 ∷ 170 ∷ 1 ∷ []) ∷ (3 ∷ 5 ∷ 187 ∷ 1 ∷ []) ∷ []) ≡ record { replies = Stored ∷ Kept ∷ Kept ∷ []; five = Some (170 ∷ 187 ∷ []) }
+unfolding replied
+swaps_no_part = refl
+
+-- of two nodes that want a key, the second gets it only when the first has given it back
+one_after_another :
+    replied ((1 ∷ 5 ∷ 0 ∷ []) ∷ (3 ∷ 5 ∷ 0 ∷ 1 ∷ []) ∷ (3 ∷ 5 ∷ 0 ∷ 2 ∷ []) ∷ (3 ∷ 5 ∷ 1 ∷ 0 ∷ []) ∷ (3 ∷ 5 ∷ 0 ∷ 2 ∷ []) ∷ [])
+    ≡ record { replies = Stored ∷ Swapped ∷ Kept ∷ Swapped ∷ Swapped ∷ []; five = Some (2 ∷ []) }
+unfolding replied
+one_after_another = refl
+
+-- a value is replaced as a whole, and removed once
+stored_twice_removed_once :
+    replied ((1 ∷ 5 ∷ 1 ∷ 2 ∷ 3 ∷ []) ∷ (1 ∷ 5 ∷ 4 ∷ []) ∷ (2 ∷ 5 ∷ []) ∷ (2 ∷ 5 ∷ []) ∷ []) ≡ record { replies = Stored ∷ Stored ∷ Removed ∷ Absent ∷ []; five = None }
+unfolding replied
+stored_twice_removed_once = refl

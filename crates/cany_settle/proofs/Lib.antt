@@ -1,5 +1,6 @@
 pub mod Asked
 pub mod Backlogs
+pub mod EventRows
 pub mod LastEventFacts
 pub mod LastSlotFacts
 pub mod LongEnough

@@ -3,8 +3,6 @@ ghost use Rattle.cany_text.specs.declared.scenario_fault.ScenarioFault.TheVarian
 
 use cany_base::{ParamFault, ParamName};
 use std::alloc::{AllocError, AllocFailed};
-use std::error::Error;
-use std::fmt;
 
 /// A table of a scenario text, or an array of tables by its key.
 #[derive(Clone, Copy)]
@@ -121,43 +119,6 @@ pub enum ScenarioFault {
     /// There was no memory for what the text gives.
     Memory,
 }
-
-impl ScenarioFault {
-    /// What is wrong, without where.
-    fn words(&self) -> &'static str {
-        match *self {
-            ScenarioFault::NotText => "the bytes are not UTF-8",
-            ScenarioFault::NotToml => "the text is no TOML document",
-            ScenarioFault::UnknownKey { .. } => "unknown key",
-            ScenarioFault::MissingKey { .. } => "missing key",
-            ScenarioFault::WrongKind { .. } => "wrong kind",
-            ScenarioFault::OutOfRange { .. } => "out of range",
-            ScenarioFault::TooMany { .. } => "too many entries",
-            ScenarioFault::BadData { .. } => "bad data in a send",
-            ScenarioFault::BoundTooSmall { .. } => "bound too small",
-            ScenarioFault::RepeatedRule { .. } => "repeated rule",
-            ScenarioFault::TooOften { .. } => "too many restarts of a node",
-            ScenarioFault::BadJournal { .. } => "bad journal",
-            ScenarioFault::Memory => "out of memory",
-        }
-    }
-}
-
-/// What is wrong, without where. The line of a refusal says both.
-impl fmt::Display for ScenarioFault {
-    fn fmt<W: fmt::Write>(&self, f: &mut fmt::Formatter<W>) -> fmt::Result {
-        f.write_str(self.words())
-    }
-}
-
-// By hand, since the derived one takes many times as long to prove.
-impl fmt::Debug for ScenarioFault {
-    fn fmt<W: fmt::Write>(&self, f: &mut fmt::Formatter<W>) -> fmt::Result {
-        fmt::Display::fmt(self, f)
-    }
-}
-
-impl Error for ScenarioFault {}
 
 impl From<AllocError> for ScenarioFault {
     ghost from_gives = { λ _ fault. fault ≡ Memory };

@@ -1,4 +1,5 @@
-//! A seat may move to another thread. So may a yard, which threads may share too.
+//! A seat may move to another thread, and threads share none: the shares of a ledger that std has
+//! are `Send` alone. A yard may move, and threads may share it.
 
 use crate::course::Course;
 use crate::seat::{BusSeat, Seat};

@@ -34,10 +34,13 @@ fn meets(asked: &AtomicU64) -> bool {
 struct Meeting<'a> {
     asked: &'a AtomicU64,
     refusals: u64,
+    refused_at: Option<Slot>,
 }
 
 impl Gate for Meeting<'_> {
     ghost refusals = { λ gate. gate.refusals };
+
+    ghost refused_at = { λ gate. gate.refused_at };
 
     fn pass(&mut self, node: NodeId, slot: Slot) -> bool {
         let passes = match (node.get(), slot) {
@@ -47,6 +50,7 @@ impl Gate for Meeting<'_> {
         };
         if !passes {
             self.refusals = self.refusals.saturating_add(1);
+            self.refused_at = Some(slot);
         }
         passes
     }
@@ -57,7 +61,11 @@ fn meetings(alloc: Global, asked: &AtomicU64) -> Result<Vec<Meeting<'_>>, AllocE
 {
     let mut gates = Vec::new(alloc);
     for _ in 0..MOST_NODES {
-        gates.push(Meeting { asked, refusals: 0 })?;
+        gates.push(Meeting {
+            asked,
+            refusals: 0,
+            refused_at: None,
+        })?;
     }
     Ok(gates)
 }

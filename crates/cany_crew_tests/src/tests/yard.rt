@@ -4,22 +4,32 @@ ghost use Rattle.std.specs.Prelude.{◌≡◌, []};
 use super::three_nodes;
 use cany_base::{NodeId, Step};
 use cany_world::World;
-use cany_yard::{Course, StepReply, TurnReply, Yard};
+use cany_yard::{Course, SeatsMissing, StepReply, TurnReply, Yard};
 use std::alloc::Global;
 use std::marker::Brand;
 use std::sync::Wait;
 use std::sync::ledger::{Blank, Ledger};
 use std::test::Fail;
 
-/// What the seats reply in the order slot, turn of node 1, turn of node 0, and the world after the
-/// close.
+/// What came of seats that were worked by hand.
+#[derive(Drop)]
+struct ByHand {
+    slot: StepReply,
+    turns: [TurnReply; 2],
+    /// How many seats a close had that one was missing to, and how many were made.
+    missed: (u32, u32),
+    world: World,
+}
+
+/// Works the seats in the order slot, turn of node 1, turn of node 0. The yard is closed with two
+/// of the three seats, and then with all that came back and the third.
 fn worked<L: Course, B: Ledger, R: Wait>(
     rt: &R,
     alloc: Global,
     turns: Blank,
     slots: Blank,
     world: World,
-) -> Option<(StepReply, [TurnReply; 2], World)>
+) -> Option<ByHand>
     requires fresh { world.journal ≡ [] }
     requires three { world.scenario.params.nodes ≡ 3 }
     requires course { world.scenario ≡ L.scenario }
@@ -33,11 +43,26 @@ fn worked<L: Course, B: Ledger, R: Wait>(
     let slot = yard.lock(rt).slot(&mut bus);
     let one = yard.lock(rt).turn(&mut seats[1]);
     let zero = yard.lock(rt).turn(&mut seats[0]);
+    let third = seats.pop()?;
+    let SeatsMissing {
+        yard,
+        bus,
+        mut seats,
+        have,
+        made,
+    } = yard.close(bus, seats).err()?;
+    seats.push(third).ok()?;
     let world = yard.close(bus, seats).ok()?;
-    Some((slot, [one, zero], world))
+    Some(ByHand {
+        slot,
+        turns: [one, zero],
+        missed: (have, made),
+        world,
+    })
 }
 
-/// The close keeps the nodes of the turns, and the order of the steps.
+/// The close says that a seat is missing, and keeps the nodes of the turns and the order of the
+/// steps.
 #[test]
 fn seats_by_hand(rt: HostRuntime) -> Result<(), Fail> {
     let alloc = rt.alloc();
@@ -55,7 +80,7 @@ fn seats_by_hand(rt: HostRuntime) -> Result<(), Fail> {
         Step::Turn(NodeId::of_index(1)),
         Step::Turn(NodeId::of_index(0)),
     ];
-    let replies = worked.0 == StepReply::Done && worked.1 == [read, read];
-    assert!(rt; replies && worked.2.journal() == steps.as_slice());
+    let replies = worked.slot == StepReply::Done && worked.turns == [read, read];
+    assert!(rt; replies && worked.missed == (2, 3) && worked.world.journal() == steps.as_slice());
     Ok(())
 }

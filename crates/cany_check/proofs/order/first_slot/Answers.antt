@@ -4,14 +4,14 @@ use Rattle.std.specs.Option.{option_and_then}
 use Rattle.std.proofs.lemmas.Option.{slice_get_read}
 use Rattle.cany_base.specs.declared.message.MsgKey.{MsgKey}
 use Rattle.cany_check.specs.declared.record.MessageRecord.{MessageRecord}
-use Rattle.cany_check.specs.declared.record.Slots.{Slots}
+use Rattle.cany_check.specs.declared.record.FirstAndLast.{FirstAndLast}
 use Rattle.cany_check.specs.Places.{place_of}
 use Rattle.cany_check.specs.Reference.{first_slot}
 use Rattle.cany_check.proofs.PlacesFacts.{at_place, no_place}
 use Rattle.cany_check.proofs.order.first_slot.Goals as goal
 
 abbrev slot_of : MessageRecord → Option ℕ
-slot_of m = option_map (λ (slots : Slots). slots.first) m.carried
+slot_of m = option_map (λ (slots : FirstAndLast). slots.first) m.carried
 
 unknown : (messages : List MessageRecord) (key : MsgKey) → place_of key messages ≡ None → first_slot messages key ≡ None
 unknown messages key e = ap (option_and_then slot_of) (no_place key messages e)
@@ -32,11 +32,11 @@ returns-in_err-slots c =
     let m = c.index-messages-place.result in
     c.from_residual-in_err-slots.ensures
     ∙ sym (known c.args.messages.now c.args.key.now c.in_ok-place.place m found (subst (λ (l : List MessageRecord). c.in_ok-place.place < length l) c.requires c.in_ok-place.ensures.within) c.index-messages-place.is
-    ∙ ap slot_of c.index-messages-place.is ∙ ap (option_map (λ (slots : Slots). slots.first)) c.in_err-slots.was)
+    ∙ ap slot_of c.index-messages-place.is ∙ ap (option_map (λ (slots : FirstAndLast). slots.first)) c.in_err-slots.was)
 
 pub returns : goal.returns
 returns c =
     let found : place_of c.args.key.now c.args.messages.now ≡ Some c.in_ok-place.place = ap (place_of c.args.key.now) (sym c.requires) ∙ sym c.in_ok-place.ensures.place in
     let m = c.index-messages-place.result in
     sym (known c.args.messages.now c.args.key.now c.in_ok-place.place m found (subst (λ (l : List MessageRecord). c.in_ok-place.place < length l) c.requires c.in_ok-place.ensures.within) c.index-messages-place.is
-    ∙ ap slot_of c.index-messages-place.is ∙ ap (option_map (λ (slots : Slots). slots.first)) c.in_ok-slots.was)
+    ∙ ap slot_of c.index-messages-place.is ∙ ap (option_map (λ (slots : FirstAndLast). slots.first)) c.in_ok-slots.was)

@@ -3,12 +3,12 @@ use Rattle.std.specs.Prelude.{if◌then◌else◌, slice_index_or}
 use Rattle.std.specs.Global.{Global}
 use Rattle.std.proofs.lemmas.List.{length-map, length-take-le, take_more}
 use Rattle.cany_check.specs.declared.record.MessageRecord.{MessageRecord}
-use Rattle.cany_check.specs.Places.{AreRows, items_of}
+use Rattle.cany_check.specs.Places.{AreRows, lists_of}
 use Rattle.cany_check.proofs.PlacesFacts.{no_rows, rows_more}
 use Rattle.cany_check.proofs.places.places_of.Goals as goal
 
 pub loop-i-init : goal.loop-i-init
-loop-i-init c = no_rows (items_of c.in_ok-of_origin.of_origin.items) c.in_ok-of_origin.ensures
+loop-i-init c = no_rows (lists_of c.in_ok-of_origin.of_origin.items) c.in_ok-of_origin.ensures
 
 pub loop-i-preserved : goal.loop-i-preserved
 loop-i-preserved c =
@@ -18,8 +18,8 @@ loop-i-preserved c =
     take_more ms c.loop-i.i m c.loop-i-test.true ∙ ap (λ (x : MessageRecord). take c.loop-i.i ms ++ x ∷ []) (sym c.index-messages-i.is) in
     let at : c.from.result ≡ m.key.origin = c.from.ensures ∙ c.get.ensures.value ∙ ap (λ (x : MessageRecord). x.key.origin) (sym c.index-messages-i.is) in
     let so_far : length (take c.loop-i.i ms) ≡ c.loop-i.i = length-take-le c.loop-i.i ms (omega arith) in
-    let old = items_of c.loop-i.of_origin.items in
-    let new = items_of c.add.new.rows.items in
+    let old = lists_of c.loop-i.of_origin.items in
+    let new = lists_of c.add.new.rows.items in
     let same : length new ≡ length old =
     length-map c.add.new.rows.items (λ (r : Vec ℕ Global). r.items) ∙ c.in_ok-add.ensures.length ∙ sym (length-map c.loop-i.of_origin.items (λ (r : Vec ℕ Global). r.items)) in
     subst (λ l. AreRows l new) (sym more) (rows_more (take c.loop-i.i ms) m old new c.loop-i.invariant same (λ o.

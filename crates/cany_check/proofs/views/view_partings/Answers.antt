@@ -3,7 +3,7 @@ use Rattle.std.specs.Prelude.{filter_map, is_some, Option}
 use Rattle.std.specs.List.{flat_map}
 use Rattle.cany_check.specs.declared.findings.ViewParting.{ViewParting}
 use Rattle.cany_check.specs.Account.{LogParts, running}
-use Rattle.cany_check.specs.ViewRows.{HasRows, parting_of, views_in}
+use Rattle.cany_check.specs.ViewRows.{HasRows, row_parting, views_in}
 use Rattle.cany_check.proofs.ViewRowFacts.{numbers_are, partings_are}
 use Rattle.cany_check.proofs.views.view_partings.Goals as goal
 
@@ -19,4 +19,4 @@ returns-clause-apart c =
     let rows = c.in_ok-rows.rows.items in
     let has = subst (λ (l : List LogParts). HasRows (flat_map views_in (running l)) rows) c.logs.ensures.logs c.in_ok-rows.ensures in
     c.in_ok-find_partings.ensures
-    ∙ ap (λ (l : List (Option ViewParting)). filter_map parting_of l) c.as_slice-2.ensures.value ∙ partings_are c.args.account.now rows has
+    ∙ ap (λ (l : List (Option ViewParting)). filter_map row_parting l) c.as_slice-2.ensures.value ∙ partings_are c.args.account.now rows has

@@ -8,7 +8,7 @@ invariant-loop-assignments g l =
     (vec_capacity l.seats ≡ vec_capacity l.fn.seats)
     × (vec_capacity l.gates ≡ vec_capacity l.fn.gates)
     × (vec_len l.gates + vec_len l.fn.seats ≡ vec_len l.fn.gates + vec_len l.seats)
-    × AreEmptied g.G.Gate.refusals (is_some l.of_bus) l.fn.assignments.items l.assignments.items l.fn.gates.items l.gates.items (vec_len l.fn.seats) (vec_len l.seats)
+    × AreEmptied g.G.Gate.refusals g.G.Gate.refused_at (is_some l.of_bus) l.fn.assignments.items l.assignments.items l.fn.gates.items l.gates.items (vec_len l.fn.seats) (vec_len l.seats)
 
 abbrev pub decreases-loop-assignments : goal.decreases-loop-assignments
 decreases-loop-assignments g l = goal.left-loop-assignments g l

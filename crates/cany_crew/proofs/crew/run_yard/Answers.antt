@@ -13,7 +13,8 @@ returns-clause-node g c =
 pub returns-clause-outcome : goal.returns-clause-outcome
 returns-clause-outcome g c =
     outcome_then (map g.G.Gate.refusals c.args.gates.now.items) (map g.G.Gate.refusals c.work_seats-worked.new.gates.items)
-    (map g.G.Gate.refusals c.finish-held.new.gates.items) c.work_seats-worked.result.held c.finish-held.result c.in-None.is c.work_seats-worked.ensures.outcome
+    (map g.G.Gate.refusals c.finish-held.new.gates.items) (map g.G.Gate.refused_at c.work_seats-worked.new.gates.items)
+    (map g.G.Gate.refused_at c.finish-held.new.gates.items) c.work_seats-worked.result.held c.finish-held.result c.in-None.is c.work_seats-worked.ensures.outcome
     c.finish-held.ensures.outcome
 
 pub end-world-requires : goal.end-world-requires

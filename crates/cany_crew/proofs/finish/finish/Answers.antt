@@ -46,9 +46,10 @@ returns-then-not-ask-clause-outcome g c =
     let same : map g.G.Gate.refusals c.as_mut_slice.result.now ≡ counts =
     ap (λ (gates : List g.row.G.Denot). map g.G.Gate.refusals gates) c.as_mut_slice.ensures.value ∙ c.loop-step.invariant.2 in
     let len : length c.ask.new.gates ≡ c.loop-step.gates.len = omega (arith, c.ask.auto.gates, c.as_mut_slice.ensures.len) in
-    subst (λ (gates : List g.row.G.Denot). IsOutcome counts (map g.G.Gate.refusals gates) (Some (c.in-Turn.node, c.read-slot.result)))
+    subst (λ (gates : List g.row.G.Denot). IsOutcome counts (map g.G.Gate.refusals gates) (map g.G.Gate.refused_at gates) (Some (c.in-Turn.node, c.read-slot.result)))
     (sym (slice_whole c.loop-step.gates.len c.ask.new.gates c.loop-step.gates.items len))
-    (outcome_held counts (map g.G.Gate.refusals c.as_mut_slice.result.now) (map g.G.Gate.refusals c.ask.new.gates) (c.in-Turn.node, c.read-slot.result) same
+    (outcome_held counts (map g.G.Gate.refusals c.as_mut_slice.result.now) (map g.G.Gate.refusals c.ask.new.gates) (map g.G.Gate.refused_at c.ask.new.gates)
+    (c.in-Turn.node, c.read-slot.result) same
     c.ask.ensures.count (c.ask.ensures.refused c.if-not-ask.true))
 
 pub loop-step-smaller : goal.loop-step-smaller

@@ -44,9 +44,10 @@ pub returns-clause-outcome : goal.returns-clause-outcome
 returns-clause-outcome g c =
     let len : vec_len c.empty_assignments-bus.new.gates ≡ length c.empty_assignments-bus.new.gates.items = omega (arith, c.empty_assignments-bus.new.gates.ok.0) in
     let nodes : c.len-nodes.result ≡ length (counts_of c.fill_assignments.new.assignments.items) = let count = c.fill_assignments.ensures.count in omega (arith, count, c.len-nodes.ensures) in
-    outcome_is g.G.Gate.refusals c.fill_assignments.new.assignments.items c.work_all.new.assignments.items c.args.gates.now.items c.fill_assignments.new.gates.items
+    outcome_is g.G.Gate.refusals g.G.Gate.refused_at c.fill_assignments.new.assignments.items c.work_all.new.assignments.items c.args.gates.now.items c.fill_assignments.new.gates.items
     c.empty_assignments-bus.new.gates.items c.rotate_right.new.self.items c.first_refused-held.result (length (counts_of c.fill_assignments.new.assignments.items))
     c.fill_assignments.ensures.order c.work_all.ensures refl c.fill_assignments.ensures.gates c.empty_assignments-bus.ensures.gates
+    c.empty_assignments-bus.ensures.slots
     (c.rotate_right.ensures.items
     ∙ ap (λ k. drop (k - c.len-nodes.result) c.empty_assignments-bus.new.gates.items ++ take (k - c.len-nodes.result) c.empty_assignments-bus.new.gates.items) len
     ∙ ap (λ n. drop (length c.empty_assignments-bus.new.gates.items - n) c.empty_assignments-bus.new.gates.items ++ take (length c.empty_assignments-bus.new.gates.items - n) c.empty_assignments-bus.new.gates.items) nodes)

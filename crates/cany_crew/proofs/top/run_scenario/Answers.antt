@@ -17,12 +17,14 @@ returns-clause-start g c = λ fault.
 
 pub returns-clause-passed : goal.returns-clause-passed
 returns-clause-passed g c = λ done.
-    all_passed (map g.G.Gate.refusals c.args.gates.now.items) (map g.G.Gate.refusals c.run_crew-world.new.gates.items) c.run_crew-world.result.1
+    all_passed (map g.G.Gate.refusals c.args.gates.now.items) (map g.G.Gate.refusals c.run_crew-world.new.gates.items)
+    (map g.G.Gate.refused_at c.run_crew-world.new.gates.items) c.run_crew-world.result.1
     (c.report_ending.ensures.passed done) c.run_crew-world.ensures.outcome
 
 pub returns-clause-held : goal.returns-clause-held
 returns-clause-held g c = λ held.
-    any_refused (map g.G.Gate.refusals c.args.gates.now.items) (map g.G.Gate.refusals c.run_crew-world.new.gates.items) c.run_crew-world.result.1
+    any_refused (map g.G.Gate.refusals c.args.gates.now.items) (map g.G.Gate.refusals c.run_crew-world.new.gates.items)
+    (map g.G.Gate.refused_at c.run_crew-world.new.gates.items) c.run_crew-world.result.1
     (c.report_ending.ensures.held held) c.run_crew-world.ensures.outcome
 
 pub returns-clause-count : goal.returns-clause-count

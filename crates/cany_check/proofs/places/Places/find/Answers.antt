@@ -2,7 +2,7 @@ use Rattle.std.proofs.Common.{◌≡◌, ◌<◌, Vec, [], length, ap, sym, subs
 use Rattle.std.specs.Prelude.{IfSome, slice_get, slice_index_or}
 use Rattle.std.specs.Global.{Global}
 use Rattle.std.proofs.lemmas.List.{length-map}
-use Rattle.cany_check.specs.Places.{items_of, place_of}
+use Rattle.cany_check.specs.Places.{lists_of, place_of}
 use Rattle.cany_check.proofs.PlacesFacts.{copied_at, found_in_row, place_within, row_items}
 use Rattle.cany_check.proofs.places.Places.find.Goals as goal
 
@@ -15,7 +15,7 @@ found c =
     let row = row_items rows c.from.result c.index-row.result.now (omega (arith, rows_number, c.self.invariant.rows.number, at, c.get.ensures.in_range, c.get.ensures.value)) c.index-row.ensures in
     c.copied.ensures ∙ copied_at c.get-2.result c.deref.result.now c.from-2.result c.get-2.ensures.lookup.0 c.get-2.ensures.lookup.1
     ∙ ap (slice_get c.deref.result.now) c.from-2.ensures
-    ∙ ap (λ l. slice_get l k.seq) (c.deref.ensures.value ∙ row ∙ ap (λ o. slice_index_or (items_of rows) o []) at ∙ c.self.invariant.rows.each k.origin (omega (arith, c.get.ensures.in_range, c.get.ensures.value)))
+    ∙ ap (λ l. slice_get l k.seq) (c.deref.ensures.value ∙ row ∙ ap (λ o. slice_index_or (lists_of rows) o []) at ∙ c.self.invariant.rows.each k.origin (omega (arith, c.get.ensures.in_range, c.get.ensures.value)))
     ∙ found_in_row c.self.inside.messages.now c.self.invariant.numbered k
 
 pub returns-clause-place : goal.returns-clause-place

@@ -1,6 +1,6 @@
 use Rattle.std.proofs.Common.{ap, ◌∙◌}
 use Rattle.cany_check.specs.Unused.{attempt_slot}
-use Rattle.cany_check.proofs.attempts.Attempts.last.Goals as goal
+use Rattle.cany_check.proofs.attempts.AttemptSlots.last.Goals as goal
 
 pub returns : goal.returns
 returns c =

@@ -1,6 +1,6 @@
 use Rattle.std.proofs.Common.{sym, ◌∙◌}
 use Rattle.cany_check.proofs.AttemptFacts.{idle_slot, named_slot, unnamed_slot}
-use Rattle.cany_check.proofs.attempts.Attempts.note.Goals as goal
+use Rattle.cany_check.proofs.attempts.AttemptSlots.note.Goals as goal
 
 pub returns-in_default : goal.returns-in_default
 returns-in_default c =

@@ -1,6 +1,6 @@
 use Rattle.std.proofs.Common.{reverse, take}
 use Rattle.cany_check.specs.Attempts.{AreAttempts, is_named}
-use Rattle.cany_check.proofs.attempts.Attempts.of_run.Given as goal
+use Rattle.cany_check.proofs.attempts.AttemptSlots.of_run.Given as goal
 
 -- the attempts are those of the slots so far
 abbrev pub invariant-loop-i : goal.invariant-loop-i

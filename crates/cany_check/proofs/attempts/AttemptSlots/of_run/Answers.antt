@@ -1,7 +1,7 @@
 use Rattle.std.proofs.Common.{subst}
 use Rattle.cany_check.specs.Attempts.{AreZero, is_named}
 use Rattle.cany_check.proofs.AttemptFacts.{first_attempts}
-use Rattle.cany_check.proofs.attempts.Attempts.of_run.Goals as goal
+use Rattle.cany_check.proofs.attempts.AttemptSlots.of_run.Goals as goal
 
 pub loop-i-init : goal.loop-i-init
 loop-i-init c =
