@@ -1,7 +1,7 @@
 #!/usr/bin/env python3
-"""Writes the tables of docs/variants.md from the crates: python3 .ci/variants.py --write.
+"""Writes the lists of docs/variants.md from the crates: python3 .ci/variants.py --write. Prints one list: python3 .ci/variants.py Step.
 
-For each public enum of the plain types: the files that name a variant of it. The gate holds the tables equal to what this makes."""
+For each public enum of the plain types: the files that name a variant of it. The gate holds the lists equal to what this makes."""
 import argparse
 import re
 import sys
@@ -10,7 +10,7 @@ from pathlib import Path
 from source import OF_TESTS
 
 PAGE = "docs/variants.md"
-BEGIN, END = "<!-- the tables: .ci/variants.py writes them -->", "<!-- the end of the tables -->"
+BEGIN, END = "<!-- the lists: .ci/variants.py writes them -->", "<!-- the end of the lists -->"
 # The enums whose variants many crates name. What a text calls the variants, where tools name them too.
 ENUMS = {
     "Verdict": ("cany_base", ("clean", "lost", "partial", "silent")),
@@ -26,6 +26,8 @@ ENUMS = {
     "Fate": ("cany_check", ("all", "none", "apart", "open")),
     "UnusedEntry": ("cany_check", ()),
 }
+# Those that the page lists.
+ON_PAGE = ("Verdict", "Service", "Class", "Format", "NoticeKind", "LogEntry")
 
 
 def variants_of(root, enum, crate):
@@ -47,35 +49,44 @@ def tools_that_name(root, words):
     return [str(it.relative_to(root)) for it in files if words and len(set(quoted.findall(it.read_text(encoding="utf-8")))) > 1]
 
 
-def table(root, enum):
+def list_of(root, enum):
     crate, words = ENUMS[enum]
     variants = variants_of(root, enum, crate)
-    rows, proofs = [], 0
+    rows, proofs = [], {}
     for folder in sorted((root / "crates").iterdir()):
         if OF_TESTS.search(folder.name) or not folder.is_dir():
             continue
-        found = {}
+        names = []
         for part, suffix in (("src", ".rt"), ("specs", ".antt"), ("proofs", ".antt")):
             files = sorted((folder / part).rglob(f"*{suffix}"))
-            found[part] = [it for it in files if names_it(it.read_text(encoding="utf-8"), suffix, enum, variants)]
-        if any(found.values()):
-            names = [", ".join(f"`{it.stem}`" for it in found[part]) for part in ("src", "specs")]
-            rows.append(f"| `{folder.name}` | {names[0]} | {names[1]} | {len(found['proofs']) or ''} |")
-    lines = [f"### `{enum}` of `{crate}`", "", f"Variants: {', '.join(f'`{it}`' for it in variants)}.", ""]
+            found = [it.stem for it in files if names_it(it.read_text(encoding="utf-8"), suffix, enum, variants)]
+            if part != "proofs":
+                names += found
+            elif found:
+                proofs[folder.name] = len(found)
+        if names:
+            rows.append(f"- `{folder.name}`: {', '.join(f'`{it}`' for it in names)}")
+    lines = [f"### `{enum}` of `{crate}`", "", f"{', '.join(f'`{it}`' for it in variants)}; {proofs_in(proofs)}", ""]
     if tools := tools_that_name(root, words):
-        lines += [f"Tools that name them: {', '.join(f'`{it}`' for it in tools)}.", ""]
-    return "\n".join([*lines, "| crate | `src` | `specs` | files of proofs |", "|---|---|---|---|", *rows, ""])
+        rows.append(f"- tools: {', '.join(f'`{it}`' for it in tools)}")
+    return "\n".join([*lines, *rows, ""])
 
 
-def tables(root):
-    return "\n".join(table(root, it) for it in ENUMS)
+def proofs_in(crates):
+    """How many files of proofs name a variant, and the three crates that have the most of them."""
+    most = sorted(crates, key=lambda it: (-crates[it], it))[:3]
+    return f"{sum(crates.values())} files of proofs: {', '.join(f'`{it}` {crates[it]}' for it in most)}{' ..' if len(crates) > 3 else ''}"
+
+
+def lists(root):
+    return "\n".join(list_of(root, it) for it in ON_PAGE)
 
 
 def page(root):
-    """The page with its tables made anew."""
+    """The page with its lists made anew."""
     text = (root / PAGE).read_text(encoding="utf-8")
     before, _, rest = text.partition(BEGIN)
-    return f"{before}{BEGIN}\n\n{tables(root)}\n{END}{rest.partition(END)[2]}"
+    return f"{before}{BEGIN}\n\n{lists(root)}\n{END}{rest.partition(END)[2]}"
 
 
 def check(root, tally):
@@ -84,13 +95,14 @@ def check(root, tally):
 
 def main():
     parser = argparse.ArgumentParser(description=__doc__.split("\n")[0])
+    parser.add_argument("enum", nargs="?", choices=ENUMS, help="print the list of this enum alone")
     parser.add_argument("--write", action="store_true", help=f"write {PAGE}")
     root = Path(__file__).resolve().parent.parent
-    text = page(root)
-    if parser.parse_args().write:
-        (root / PAGE).write_text(text, encoding="utf-8")
+    given = parser.parse_args()
+    if given.write:
+        (root / PAGE).write_text(page(root), encoding="utf-8")
     else:
-        sys.stdout.write(text)
+        sys.stdout.write(list_of(root, given.enum) if given.enum else page(root))
 
 
 if __name__ == "__main__":
