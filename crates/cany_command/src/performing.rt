@@ -93,8 +93,8 @@ fn perform_text<C: Command, K: Sink>(
 /// or journal are refused: exactly the line of the first fault was written. 4 only where the
 /// source's count of faults rose. 5 only where the sink's count rose: a prefix was taken. 6: out of
 /// memory. 7 only where the source has more than 33,554,432 bytes. At success, 3 and 5 all was
-/// read, at 2, 4, 6 and 7 nothing is written. But where the command refuses its words, nothing is
-/// read, and the status is 3, 5 or 6.
+/// read, at 2, 4, 6 and 7 nothing is written. If the command refuses its words, nothing is read,
+/// and the status is 3, 5 or 6.
 ///
 /// Shown by: `commands_give_their_answers`, `each_read_fails_in_turn`, `each_write_fails_in_turn`,
 /// `.ci/calls.py`, `.ci/refusals.py`, `refused_words_are_other_words`,

@@ -64,8 +64,8 @@ pub fn few_data_frames()
 /// A message is confirmed once. The origin alone sends the frame, for its own transmission of the
 /// data frame, whatever incarnations it has.
 ///
-/// It holds of every journal, at any lag and under any faults, within the hypothesis or not. How
-/// often the data frame is carried `few_data_frames` says.
+/// It holds of every journal, at any lag and under any faults, within the hypothesis or not.
+/// `few_data_frames` says how often the data frame is carried.
 ///
 /// Promise: in a run of at most 64 nodes the frame that confirms a RELCAN message is carried Clean
 /// at most once.

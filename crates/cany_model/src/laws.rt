@@ -132,8 +132,8 @@ pub fn few_life_signs()
         → count_by (λ f. same_class f.class class.Els) (node_at (run scenario journal).nodes i).waiting ≤ 2 }
 {}
 
-/// Few frames that accept. It holds of every journal, legal or not, under any fault script without
-/// a Silent slot, and asks for no formula of the parameters.
+/// Few frames that accept. It holds of every journal, legal or not, and asks for no formula of the
+/// parameters.
 ///
 /// Promise: in every run within the hypothesis of N nodes, at most 64, any window of
 /// `bound` + `lag` consecutive slots has at most 2N² Clean frames that accept (`HasFewAccepts`).
@@ -303,8 +303,9 @@ pub fn detector_accuracy()
 /// A member that runs stays a member.
 ///
 /// Promise: take a run within the hypothesis of a legal scenario without restart entries. Let a
-/// running node have asked for no leave, and stand in the view of each correct node after its turn
-/// of a slot. It stands in each of their logged views of a cycle that ends later (`StaysInViews`).
+/// running node have asked for no leave. Let each correct node, after its own turn of a slot, have
+/// it in its view. It stands in each of their logged views of a cycle that ends later
+/// (`StaysInViews`).
 ///
 /// Shown by: rows DetectorRows of cany_rows.
 pub fn members_stay()

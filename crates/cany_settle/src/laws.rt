@@ -15,8 +15,9 @@ ghost use Rattle.cany_settle.specs.LongEnough.{AllSettled, IsLongEnough, last_lo
 /// (`from`), as every scenario that is read. The law does not say that a run ever comes to such an
 /// end.
 ///
-/// Promise: in a whole run within the hypothesis of a legal scenario, by any journal, every message
-/// is settled if the last event lies two membership cycles or more before the end.
+/// Promise: in a whole run within the hypothesis of a legal scenario whose `from` is 0, as that of
+/// every scenario that is read, every message is settled if the last event lies two membership
+/// cycles or more before the end. The journal may be any.
 ///
 /// Shown by: rows Rows of cany_settle.
 pub fn settling()
@@ -30,9 +31,9 @@ pub fn settling()
 /// another class than those that win over all others. Stops, errors and scripted joins and leaves
 /// may come as late as they do.
 ///
-/// Promise: in such a run every message is settled if the last load lies `short_tail` slots or more
-/// before the end. It asks for no restriction on stops, errors, joins or leaves, but that the run
-/// is within the hypothesis.
+/// Promise: in a whole run within the hypothesis of a legal scenario whose `from` is 0, every
+/// message is settled if the last load lies `short_tail` slots or more before the end. It asks for
+/// no restriction on stops, errors, joins or leaves, but that the run is within the hypothesis.
 pub fn settling_soon()
     ensures { (scenario : ScenarioParts) (journal : List Step) → IsLegalScenario scenario → scenario.from ≡ 0
         → IsWithin scenario.params (run scenario journal).trace → IsWhole scenario journal

@@ -74,7 +74,8 @@ impl Hall {
     ///
     /// # Errors
     ///
-    /// `Memory`: out of memory. The writers that were made by then are ended, so the call may wait.
+    /// `Memory`: out of memory. The call ends the writers that were made by then, and may wait for
+    /// that.
     pub fn build<R: Wait>(
         rt: &R,
         alloc: Global,

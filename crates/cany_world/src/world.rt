@@ -388,8 +388,8 @@ impl World {
     /// After how many steps the journal repeats itself up to its end, as far as the world knows. It
     /// is 0 where it knows of none: after 0 steps each journal repeats itself.
     ///
-    /// Promise: after this many steps the journal is the same again, up to its end. No clause says
-    /// that the number is more than 0.
+    /// Promise: from this many steps on the journal repeats its beginning, up to its end. No clause
+    /// says that the number is more than 0.
     ///
     /// Shown by: `a_long_journal_repeats`.
     pub fn period(&self) -> usize
@@ -588,8 +588,9 @@ impl World {
     /// more than `silence` slots later.
     ///
     /// Let a JOIN of a node be carried Clean after the start of cycle k − 1 and not after that of
-    /// cycle k, while no running node has the node in its view. Each running node that installs a
-    /// vector in cycle k has the node in it or, for k > 1, in its vector before.
+    /// cycle k, and let each running node have the asker outside its view before its own turn of
+    /// that slot. Each running node that installs a vector in cycle k has the asker in it or, for
+    /// k > 1, in its vector before.
     ///
     /// Promise: the answer is exactly the first break of the definition. In any case the run has
     /// integrity; where there is no break, it is safe. Where the scenario has no restart entry
