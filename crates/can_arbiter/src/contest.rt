@@ -25,8 +25,8 @@ impl Outcome {
     /// Promise: let the value be the outcome of arbitration over the offers of lesser nodes. Then
     /// it is afterwards the outcome over these offers and the one of this node.
     ///
-    /// Shown by: `a_later_frame_of_an_equal_key_wins`, `one_sender_of_a_merged_frame`, `two_orders`,
-    /// `four_messages`.
+    /// Shown by: `a_later_frame_of_an_equal_key_wins`, `one_sender_of_a_merged_frame`,
+    /// `two_orders`, `four_messages`.
     // A hint, since the bus makes most of these calls in one place.
     #[inline(always)]
     pub fn enter(&mut self, format: Format, node: NodeId, frame: &Frame)

@@ -69,13 +69,19 @@ fn of_one(alloc: Global, takes: &TakesOne, rest: &[String]) -> Result<String, Al
     }
 }
 
-/// What is wrong with the arguments after a command that takes none: one may be the file that was to
-/// be read.
+/// What is wrong with the arguments after a command that takes none: one may be the file that was
+/// to be read.
 fn of_reader(alloc: Global, command: &str, rest: &[String]) -> Result<String, AllocError> {
     match rest {
         [file] => {
-            let shown = if is_plain(file.as_str()) { file.as_str() } else { "FILE" };
-            format!(in alloc; "canely: {command} reads the scenario from standard input: canely {command} < {shown}\n")
+            let shown = if is_plain(file.as_str()) {
+                file.as_str()
+            } else {
+                "FILE"
+            };
+            format!(in alloc;
+                "canely: {command} reads the scenario from standard input: canely {command} < {shown}\n"
+            )
         }
         _ => format!(in alloc; "canely: {command} takes no arguments; see canely --help\n"),
     }

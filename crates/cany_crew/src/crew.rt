@@ -148,8 +148,8 @@ pub(crate) fn run_crew<R: Threads + Wait + Sync, G: Gate>(
 /// # Errors
 ///
 /// `Held` only where the count of the gate of the node that it names rose. The slot is that of the
-/// last pass which this gate refused, and no lesser node's count rose. The world that is handed back
-/// has the same scenario. `Memory`: out of memory. The world is handed back as it was.
+/// last pass which this gate refused, and no lesser node's count rose. The world that is handed
+/// back has the same scenario. `Memory`: out of memory. The world is handed back as it was.
 pub fn crew_run<R: Threads + Wait + Sync, G: Gate>(
     rt: &R,
     alloc: Global,

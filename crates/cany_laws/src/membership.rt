@@ -15,8 +15,8 @@ ghost use Rattle.cany_laws.specs.Detection.{FailedAtStart, HearsNothingOf, IsDet
 ///
 /// Promise: in a run of a legal scenario, let an incarnation have another node in its view from t
 /// until u, hear no life of it after t up to u ≥ t + `silence`, and have read u. After its turn of
-/// u the node has failed there, unless the incarnation knew the sign of the cycle of u by its turn of t. If a
-/// cycle starts after t and not after u, it has failed in any case (`IsDetected`).
+/// u the node has failed there, unless the incarnation knew the sign of the cycle of u by its turn
+/// of t. If a cycle starts after t and not after u, it has failed in any case (`IsDetected`).
 ///
 /// Shown by: rows SilenceRows of cany_law_rows.
 pub fn silence_is_detected()

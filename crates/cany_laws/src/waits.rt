@@ -42,9 +42,10 @@ pub fn few_slots_of_waiting()
 /// that. It does not speak of one that is withdrawn before it was carried Clean.
 ///
 /// Promise: in a run within the hypothesis of a legal scenario, let running nodes wait with a frame
-/// of one identity in the first slot of w windows of `bound` + `lag` slots, and in each later one up
-/// to the first that carries it Clean. Let fewer than w times `least_left` of these slots carry Clean
-/// a frame that wins over it, of the classes FDA to ED. Then one of these slots carried it Clean.
+/// of one identity in the first slot of w windows of `bound` + `lag` slots, and in each later one
+/// up to the first that carries it Clean. Let fewer than w times `least_left` of these slots carry
+/// Clean a frame that wins over it, of the classes FDA to ED. Then one of these slots carried it
+/// Clean.
 ///
 /// Shown by: rows WaitRows of cany_law_rows.
 pub fn carried_in_windows()
