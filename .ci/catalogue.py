@@ -144,14 +144,14 @@ def check(root, tally):
     for call in source.public_calls(root):
         place = f"{call.file.relative_to(root)}:{call.first}: {call.call}"
         tally.check(call.part("Promise"), f"{place} has no paragraph `Promise:` in its doc comment")
+        for name in names_in(call.part("Shown by")):
+            tally.check(shown.is_there(name), f"{place}: {name} is no test, trial, edit, scenario, script or file of rows")
+            tally.check(shown.runs(name, call), f"{place}: {name} does not run it")
         if not tells(call):
             continue
         wanted = "# Errors" if call.answer.startswith("Result<") else "Answers:"
         tally.check(call.part("Answers") or call.errors(), f"{place} answers {call.answer} and does not say when: `{wanted}` is missing")
         tally.check(call.part("Shown by"), f"{place} has no paragraph `Shown by:`, which says what runs it, or that nothing does")
-        for name in names_in(call.part("Shown by")):
-            tally.check(shown.is_there(name), f"{place}: {name} is no test, trial, edit, scenario, script or file of rows")
-            tally.check(shown.runs(name, call), f"{place}: {name} does not run it")
     made, kept = page(root), (root / PAGE).read_text(encoding="utf-8") if (root / PAGE).exists() else ""
     tally.check(made == kept, f"{PAGE} is not what the crates say: python3 .ci/catalogue.py --write writes it anew")
 

@@ -24,7 +24,7 @@ FOLDERS = {
 }
 HEAD = """# Scenarios
 
-Each `NAME.toml` is a scenario, and `NAME.report` beside it is what the program writes of it: by `replay`, or by the words of `NAME.args`, one a line, where there is such a file. The gate runs each and compares the bytes. In a clone, `python3 tools/run.py replay < FILE` runs one.
+Each NAME.toml is a scenario, and NAME.report beside it is what the program writes of it: by `replay`, or by the words of NAME.args, one a line, where there is such a file. The gate runs each and compares the bytes. In a clone, `tools/run.py` runs one.
 
 `.ci/scenario_index.py` writes this page from the comments at the head of the files.
 """

@@ -83,7 +83,7 @@ impl Bus {
     /// Shown by: `edcan_sender_stops_after_partial`, `sixteen_lost_slots`, `a_notice_is_lost`,
     /// `a_sender_at_an_error_is_confirmed`, `a_stop_by_a_counter_is_missing`,
     /// `a_stopped_controller_competes`, `an_idle_slot_has_the_verdict`,
-    /// `takers_of_partial_swapped`, `the_attempt_is_counted_after_the_verdict`,
+    /// `acceptors_of_partial_swapped`, `the_attempt_is_counted_after_the_verdict`,
     /// `the_tally_does_not_note`.
     pub fn slot(&mut self, controllers: &mut [Controller], script: &Script) -> SlotNote
         requires each_node { AreControllersFor self.old.params controllers.old }
