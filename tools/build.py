@@ -82,22 +82,24 @@ def below(root, name):
     return found
 
 
-def is_proved(place, crate, since):
+def stamp_time(place, crate):
+    """When the library of a crate was built, or None. The clock of files may run behind the system's, so such times are only compared with one another."""
     stamp = place / f"crates/{crate}/out/rlib/stamp"
-    return stamp.is_file() and stamp.stat().st_mtime >= since
+    return stamp.stat().st_mtime_ns if stamp.is_file() else None
 
 
 def prove(place):
     """Proves and builds the program in the copy, and says of each crate below it when it is proved. Returns the exit status of rt."""
     began, told, is_running = time.time(), set(), True
     crates = below(place, "canely")
+    before = {it: stamp_time(place, it) for it in crates}
     with open(place / "build.log", "w", encoding="utf-8") as log:
         ran = subprocess.Popen(["rt", "run", "--", "--version"], cwd=place / "crates/canely", stdin=subprocess.DEVNULL, stdout=log, stderr=log)
         while is_running:
             time.sleep(PAUSE)
             # looked at before the stamps: what was proved at the end is told too
             is_running = ran.poll() is None
-            for crate in sorted(it for it in crates - told if is_proved(place, it, began)):
+            for crate in sorted(it for it in crates - told if stamp_time(place, it) not in (None, before[it])):
                 told.add(crate)
                 command.write([f"{(time.time() - began) / 60:5.1f} min  {crate} is proved, {len(told)} of at most {len(crates)}"])
     return ran.returncode
