@@ -13,25 +13,25 @@ use Rattle.cany_base.specs.Params.{default_parameters}
 use Rattle.cany_model.specs.Bus.Frames.{same_class, same_frame, same_identity}
 use Rattle.cany_model.specs.Promises.FirstSlots.{first_carried}
 use Rattle.cany_model.specs.Rules.Messages.{Message, data_id, is_service}
-use Rattle.cany_check.specs.declared.findings.Accusation.{Accusation}
-use Rattle.cany_check.specs.declared.findings.Fate.TheVariants.{All, Nobody, Apart, Open}
-use Rattle.cany_check.specs.declared.findings.Judgement.{Judgement}
-use Rattle.cany_check.specs.declared.findings.Judgement.TheVariants as judged
-use Rattle.cany_check.specs.declared.findings.Parting.{Parting}
-use Rattle.cany_check.specs.declared.findings.Told.{Told}
-use Rattle.cany_check.specs.declared.findings.ViewParting.{ViewParting}
-use Rattle.cany_check.specs.declared.record.FirstAndLast.{FirstAndLast}
-use Rattle.cany_check.specs.declared.record.MessageRecord.{MessageRecord}
-use Rattle.cany_check.specs.declared.record.SignRecord.{SignRecord}
-use Rattle.cany_check.specs.Account.{AccountParts, LogParts, first_where, last_carried, sends_data, signs_told, slots_of}
-use Rattle.cany_check.specs.Accuracy.{accusations}
-use Rattle.cany_check.specs.Fates.{least_and_greatest, message_fate, message_told, sign_fate, sign_told}
+use Rattle.cany_check.specs.declared.deciders.findings.Accusation.{Accusation}
+use Rattle.cany_check.specs.declared.deciders.findings.Fate.TheVariants.{All, Nobody, Apart, Open}
+use Rattle.cany_check.specs.declared.deciders.findings.Judgement.{Judgement}
+use Rattle.cany_check.specs.declared.deciders.findings.Judgement.TheVariants as judged
+use Rattle.cany_check.specs.declared.deciders.findings.Parting.{Parting}
+use Rattle.cany_check.specs.declared.deciders.findings.Told.{Told}
+use Rattle.cany_check.specs.declared.deciders.findings.ViewParting.{ViewParting}
+use Rattle.cany_check.specs.declared.account.record.FirstAndLast.{FirstAndLast}
+use Rattle.cany_check.specs.declared.account.record.MessageRecord.{MessageRecord}
+use Rattle.cany_check.specs.declared.account.record.SignRecord.{SignRecord}
+use Rattle.cany_check.specs.Accounts.Account.{AccountParts, LogParts, first_where, last_carried, sends_data, signs_told, slots_of}
+use Rattle.cany_check.specs.Deciding.Accuracy.{accusations}
+use Rattle.cany_check.specs.Deciding.Fates.{least_and_greatest, message_fate, message_told, sign_fate, sign_told}
 use Rattle.cany_check.specs.InOrder.{ascending, put_once}
-use Rattle.cany_check.specs.Integrity.{first_wrong, first_wrong_of}
-use Rattle.cany_check.specs.OneOrder.{by_from, difference, first_parting, parting, parting_from, put_by_from}
-use Rattle.cany_check.specs.Verdict.{judgement, parts, status}
-use Rattle.cany_check.specs.Views.{view_numbers, view_partings}
-use Rattle.cany_check.specs.Words.{nodes_of}
+use Rattle.cany_check.specs.Deciding.Integrity.{first_wrong, first_wrong_of}
+use Rattle.cany_check.specs.Deciding.OneOrder.{by_from, difference, first_parting, parting, parting_from, put_by_from}
+use Rattle.cany_check.specs.Deciding.Verdict.{judgement, parts, status}
+use Rattle.cany_check.specs.Deciding.Views.{view_numbers, view_partings}
+use Rattle.cany_check.specs.Accounts.Words.{nodes_of}
 use Rattle.cany_check.proofs.RowWords.{delivered, key, set, slots, tells}
 
 -- ---- accounts

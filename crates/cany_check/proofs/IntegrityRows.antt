@@ -8,8 +8,8 @@ use Rattle.cany_base.specs.Nodes.{nobody}
 use Rattle.cany_base.specs.Params.{default_parameters}
 use Rattle.cany_model.specs.Bus.Frames.{same_class}
 use Rattle.cany_model.specs.Rules.Messages.{is_service}
-use Rattle.cany_check.specs.Account.{AccountParts}
-use Rattle.cany_check.specs.Integrity.{first_wrong, first_wrong_of, wrong_entry}
+use Rattle.cany_check.specs.Accounts.Account.{AccountParts}
+use Rattle.cany_check.specs.Deciding.Integrity.{first_wrong, first_wrong_of, wrong_entry}
 
 -- three nodes, one EDCAN message of node 0 that was first carried in slot 1, and one log, of node 1
 account_with : Bool → List LogEntry → AccountParts

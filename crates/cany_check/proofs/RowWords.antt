@@ -20,29 +20,29 @@ use Rattle.cany_model.proofs.Runs.Journals.{run_none, run_then}
 use Rattle.cany_model.specs.Promises.FirstSlots.{first_carried}
 use Rattle.cany_model.specs.Runs.Incarnations.{incarnation_of}
 use Rattle.cany_world.specs.Settled.{nodes_ahead, waiting_nodes}
-use Rattle.cany_check.specs.declared.record.MessageRecord.{MessageRecord}
-use Rattle.cany_check.specs.declared.record.SignRecord.{SignRecord}
-use Rattle.cany_check.specs.declared.record.FirstAndLast.{FirstAndLast}
-use Rattle.cany_check.specs.declared.findings.Accusation.{Accusation}
-use Rattle.cany_check.specs.declared.findings.Delivery.{Delivery}
-use Rattle.cany_check.specs.declared.findings.EntryAt.{EntryAt}
-use Rattle.cany_check.specs.declared.findings.Fate.{Fate}
-use Rattle.cany_check.specs.declared.findings.Judgement.{Judgement}
-use Rattle.cany_check.specs.declared.findings.Judgement.TheVariants.{Held}
-use Rattle.cany_check.specs.declared.findings.Parting.{Parting}
-use Rattle.cany_check.specs.declared.findings.Told.{Told}
-use Rattle.cany_check.specs.declared.findings.ViewParting.{ViewParting}
-use Rattle.cany_check.specs.declared.unused_entry.Unused.{Unused}
-use Rattle.cany_check.specs.Account.{AccountParts, account_of, first_where, last_carried}
-use Rattle.cany_check.specs.Accuracy.{accusations}
-use Rattle.cany_check.specs.Fates.{least_and_greatest, message_fate, message_told, sign_fate, sign_told}
+use Rattle.cany_check.specs.declared.account.record.MessageRecord.{MessageRecord}
+use Rattle.cany_check.specs.declared.account.record.SignRecord.{SignRecord}
+use Rattle.cany_check.specs.declared.account.record.FirstAndLast.{FirstAndLast}
+use Rattle.cany_check.specs.declared.deciders.findings.Accusation.{Accusation}
+use Rattle.cany_check.specs.declared.deciders.findings.Delivery.{Delivery}
+use Rattle.cany_check.specs.declared.deciders.findings.EntryAt.{EntryAt}
+use Rattle.cany_check.specs.declared.deciders.findings.Fate.{Fate}
+use Rattle.cany_check.specs.declared.deciders.findings.Judgement.{Judgement}
+use Rattle.cany_check.specs.declared.deciders.findings.Judgement.TheVariants.{Held}
+use Rattle.cany_check.specs.declared.deciders.findings.Parting.{Parting}
+use Rattle.cany_check.specs.declared.deciders.findings.Told.{Told}
+use Rattle.cany_check.specs.declared.deciders.findings.ViewParting.{ViewParting}
+use Rattle.cany_check.specs.declared.unused_entries.unused_entry.Unused.{Unused}
+use Rattle.cany_check.specs.Accounts.Account.{AccountParts, account_of, first_where, last_carried}
+use Rattle.cany_check.specs.Deciding.Accuracy.{accusations}
+use Rattle.cany_check.specs.Deciding.Fates.{least_and_greatest, message_fate, message_told, sign_fate, sign_told}
 use Rattle.cany_check.specs.InOrder.{ascending, put_once}
-use Rattle.cany_check.specs.Integrity.{first_wrong, first_wrong_of, wrong_entry}
-use Rattle.cany_check.specs.OneOrder.{by_from, difference, first_parting, parting, parting_from, put_by_from}
-use Rattle.cany_check.specs.Unused.{attempt_slot, unused, with_places}
-use Rattle.cany_check.specs.Verdict.{judgement, parts, status}
-use Rattle.cany_check.specs.Views.{view_numbers, view_partings}
-use Rattle.cany_check.specs.Words.{nodes_of}
+use Rattle.cany_check.specs.Deciding.Integrity.{first_wrong, first_wrong_of, wrong_entry}
+use Rattle.cany_check.specs.Deciding.OneOrder.{by_from, difference, first_parting, parting, parting_from, put_by_from}
+use Rattle.cany_check.specs.Idle.Unused.{attempt_slot, unused, with_places}
+use Rattle.cany_check.specs.Deciding.Verdict.{judgement, parts, status}
+use Rattle.cany_check.specs.Deciding.Views.{view_numbers, view_partings}
+use Rattle.cany_check.specs.Accounts.Words.{nodes_of}
 -- ---- scenarios
 
 pub use Rattle.cany_model.proofs.RowWords.{set}

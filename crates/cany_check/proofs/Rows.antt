@@ -5,11 +5,11 @@ use Rattle.cany_base.specs.declared.message.Service.TheVariants.{Ed, Tot}
 use Rattle.cany_base.specs.declared.rule.Verdict.TheVariants.{Clean, Lost, Partial, Silent}
 use Rattle.cany_base.specs.Scenario.{ScenarioParts}
 use Rattle.cany_model.specs.declared.breaks.BreakKind.TheVariants as kind
-use Rattle.cany_check.specs.declared.findings.Fate.TheVariants.{All, Nobody, Apart, Open}
-use Rattle.cany_check.specs.declared.findings.Judgement.TheVariants as judged
-use Rattle.cany_check.specs.declared.unused_entry.NoAsk.TheVariants.{From, Stopped, NeverCarried}
-use Rattle.cany_check.specs.declared.unused_entry.NoFault.TheVariants.{Attempts, Ruled, Idle, RejectsNobody, StopsNobody}
-use Rattle.cany_check.specs.declared.unused_entry.UnusedEntry.TheVariants as entry
+use Rattle.cany_check.specs.declared.deciders.findings.Fate.TheVariants.{All, Nobody, Apart, Open}
+use Rattle.cany_check.specs.declared.deciders.findings.Judgement.TheVariants as judged
+use Rattle.cany_check.specs.declared.unused_entries.unused_entry.NoAsk.TheVariants.{From, Stopped, NeverCarried}
+use Rattle.cany_check.specs.declared.unused_entries.unused_entry.NoFault.TheVariants.{Attempts, Ruled, Idle, RejectsNobody, StopsNobody}
+use Rattle.cany_check.specs.declared.unused_entries.unused_entry.UnusedEntry.TheVariants as entry
 use Rattle.cany_check.proofs.RowWords.{Found, all_held, asks, delivered, found_of, frame_rule, never_sent, row, send, set, settled, slot_rule, slots, tells, three}
 
 -- ---- runs in which nothing is amiss, or more may come

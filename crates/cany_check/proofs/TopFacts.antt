@@ -12,13 +12,13 @@ use Rattle.cany_model.specs.Bus.State.{slots_run}
 use Rattle.cany_model.specs.Promises.Hypothesis.{first_break}
 use Rattle.cany_model.specs.Runs.Follow.{journal_of}
 use Rattle.cany_model.specs.Runs.Run.{all_read, run}
-use Rattle.cany_check.specs.declared.unused_entry.Unused.{Unused}
-use Rattle.cany_check.specs.Account.{AccountParts, account_of}
-use Rattle.cany_check.specs.CheckText.{check_text, verdict_text}
+use Rattle.cany_check.specs.declared.unused_entries.unused_entry.Unused.{Unused}
+use Rattle.cany_check.specs.Accounts.Account.{AccountParts, account_of}
+use Rattle.cany_check.specs.Texts.CheckText.{check_text, verdict_text}
 use Rattle.cany_check.specs.Top.{IsCheck, IsVerdict, check_status}
-use Rattle.cany_check.specs.Unused.{unused}
-use Rattle.cany_check.specs.Verdict.{is_broken_judgement, is_open_judgement, judgement, parts, status}
-use Rattle.cany_check.proofs.StatusOfRun.{nine_where, ten_where}
+use Rattle.cany_check.specs.Idle.Unused.{unused}
+use Rattle.cany_check.specs.Deciding.Verdict.{is_broken_judgement, is_open_judgement, judgement, parts, status}
+use Rattle.cany_check.proofs.Deciding.StatusOfRun.{nine_where, ten_where}
 use Rattle.cany_text.specs.ScenarioText.{scenario_of}
 use Rattle.cany_text.specs.TomlKeys.{Read}
 use Rattle.cany_text.proofs.ScenarioTextLegal.{scenario_of-legal}

@@ -15,10 +15,10 @@ use Rattle.cany_model.specs.Bus.Frames.{same_class, same_identity}
 use Rattle.cany_model.specs.Bus.Restart.{restarted_in}
 use Rattle.cany_model.specs.Bus.State.{RunState, fresh, node_at, original}
 use Rattle.cany_model.proofs.RowWords.{ask, scenario_of, set}
-use Rattle.cany_check.specs.declared.unused_entry.NoAsk.TheVariants.{From, Stopped}
-use Rattle.cany_check.specs.declared.unused_entry.NoFault.{NoFault}
-use Rattle.cany_check.specs.declared.unused_entry.NoFault.TheVariants.{Idle, RejectsNobody, StopsNobody}
-use Rattle.cany_check.specs.Unused.{attempt_slot, is_carried_later, is_unused_restart, missed, ran_in, unused_stops, unused_verdict}
+use Rattle.cany_check.specs.declared.unused_entries.unused_entry.NoAsk.TheVariants.{From, Stopped}
+use Rattle.cany_check.specs.declared.unused_entries.unused_entry.NoFault.{NoFault}
+use Rattle.cany_check.specs.declared.unused_entries.unused_entry.NoFault.TheVariants.{Idle, RejectsNobody, StopsNobody}
+use Rattle.cany_check.specs.Idle.Unused.{attempt_slot, is_carried_later, is_unused_restart, missed, ran_in, unused_stops, unused_verdict}
 
 -- ---- a state of three nodes after ten slots
 

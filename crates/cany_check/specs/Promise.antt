@@ -10,8 +10,8 @@ use Rattle.cany_model.specs.Promises.Entries.{HasLoggedFailure}
 use Rattle.cany_model.specs.Rules.Knowledge.{FailureSign}
 use Rattle.cany_model.specs.Rules.Log.{log}
 use Rattle.cany_model.specs.Rules.Messages.{Message, messages_of}
-use Rattle.cany_check.specs.Account.{account_of}
-use Rattle.cany_check.specs.OneOrder.{NobodyParts}
+use Rattle.cany_check.specs.Accounts.Account.{account_of}
+use Rattle.cany_check.specs.Deciding.OneOrder.{NobodyParts}
 
 -- no log of a correct node has a failure entry of this one
 abbrev pub StandsInNone : ScenarioParts → RunState → ℕ → Type 0

@@ -10,10 +10,10 @@ use Rattle.cany_io.specs.Sink.{Takes}
 use Rattle.cany_model.specs.Runs.Follow.{journal_of}
 use Rattle.cany_model.specs.Runs.Run.{run}
 use Rattle.cany_check.specs.declared.status.TheConstants.{BROKEN, OPEN}
-use Rattle.cany_check.specs.Account.{account_of}
-use Rattle.cany_check.specs.CheckText.{check_text}
+use Rattle.cany_check.specs.Accounts.Account.{account_of}
+use Rattle.cany_check.specs.Texts.CheckText.{check_text}
 use Rattle.cany_check.specs.Promise.{IsOpen, KeepsPromise}
-use Rattle.cany_check.specs.Verdict.{status}
+use Rattle.cany_check.specs.Deciding.Verdict.{status}
 
 -- the statuses of success
 abbrev pub IsVerdict : ℕ → Type 0

@@ -1,9 +1,18 @@
 //! The account of a run: all that a verdict needs of it.
 ghost use Rattle.std.specs.Prelude.{◌≡◌, map};
-ghost use Rattle.cany_check.specs.AccountFields.{log_parts};
-ghost use Rattle.cany_check.specs.Orderly.{IsOrderly};
+ghost use Rattle.cany_check.specs.Accounts.AccountFields.{log_parts};
+ghost use Rattle.cany_check.specs.Accounts.Orderly.{IsOrderly};
 
-use crate::record::{LogRecord, MessageRecord, SignRecord};
+pub(crate) mod entries;
+pub(crate) mod log_records;
+pub(crate) mod making;
+pub(crate) mod message_records;
+pub(crate) mod message_slots;
+pub(crate) mod places;
+pub(crate) mod record;
+pub(crate) mod sign_records;
+
+use crate::account::record::{LogRecord, MessageRecord, SignRecord};
 use cany_base::Params;
 use std::marker::Model;
 
@@ -19,11 +28,11 @@ pub struct Account<'a> {
 }
 
 impl<'a> Model for Account<'a> {
-    ghost use Rattle.cany_check.specs.Account.{AccountParts};
+    ghost use Rattle.cany_check.specs.Accounts.Account.{AccountParts};
 
     ghost Value = { AccountParts };
 
-    ghost use Rattle.cany_check.specs.AccountFields.{account_parts, IsOrderlyInside};
+    ghost use Rattle.cany_check.specs.Accounts.AccountFields.{account_parts, IsOrderlyInside};
 
     ghost view = { account_parts };
 
@@ -31,7 +40,7 @@ impl<'a> Model for Account<'a> {
 }
 
 impl<'a> Account<'a> {
-    ghost use Rattle.cany_check.specs.Account.{AccountParts};
+    ghost use Rattle.cany_check.specs.Accounts.Account.{AccountParts};
 
     /// The account of these parts: the messages in file order, the logs by ascending node and then
     /// incarnation, and the signs that running logs tell of, by ascending cycle and then node.

@@ -13,18 +13,18 @@ ghost use Rattle.cany_model.specs.Rules.Knowledge.{FailureSign};
 ghost use Rattle.cany_model.specs.Rules.Log.{log};
 ghost use Rattle.cany_model.specs.Rules.Messages.{Message};
 ghost use Rattle.cany_model.specs.Runs.Run.{IsWhole, run};
-ghost use Rattle.cany_check.specs.declared.findings.Fate.TheVariants.{Apart, Open};
-ghost use Rattle.cany_check.specs.declared.findings.Judgement.TheVariants.{Broken};
-ghost use Rattle.cany_check.specs.declared.findings.Part.{Part};
-ghost use Rattle.cany_check.specs.declared.findings.Part.TheVariants.{Accuracy};
-ghost use Rattle.cany_check.specs.Account.{AccountParts, account_of, logs_of, message_record, sign_record, signs_told};
-ghost use Rattle.cany_check.specs.Accuracy.{accusations};
-ghost use Rattle.cany_check.specs.Fates.{message_fate, sign_fate};
-ghost use Rattle.cany_check.specs.Integrity.{wrong_entry};
-ghost use Rattle.cany_check.specs.OneOrder.{NobodyParts, parting};
+ghost use Rattle.cany_check.specs.declared.deciders.findings.Fate.TheVariants.{Apart, Open};
+ghost use Rattle.cany_check.specs.declared.deciders.findings.Judgement.TheVariants.{Broken};
+ghost use Rattle.cany_check.specs.declared.deciders.findings.Part.{Part};
+ghost use Rattle.cany_check.specs.declared.deciders.findings.Part.TheVariants.{Accuracy};
+ghost use Rattle.cany_check.specs.Accounts.Account.{AccountParts, account_of, logs_of, message_record, sign_record, signs_told};
+ghost use Rattle.cany_check.specs.Deciding.Accuracy.{accusations};
+ghost use Rattle.cany_check.specs.Deciding.Fates.{message_fate, sign_fate};
+ghost use Rattle.cany_check.specs.Deciding.Integrity.{wrong_entry};
+ghost use Rattle.cany_check.specs.Deciding.OneOrder.{NobodyParts, parting};
 ghost use Rattle.cany_check.specs.Promise.{IsOpen, KeepsPromise};
-ghost use Rattle.cany_check.specs.Verdict.{judgement, status};
-ghost use Rattle.cany_check.specs.Views.{view_partings};
+ghost use Rattle.cany_check.specs.Deciding.Verdict.{judgement, status};
+ghost use Rattle.cany_check.specs.Deciding.Views.{view_partings};
 
 /// In the account of a run no entry is wrong, as every run has integrity.
 ///

@@ -5,62 +5,28 @@
 #![tactic(auto)]
 
 mod account;
-mod accuracy;
-mod attempts;
-mod counts;
-mod entries;
-mod fate_fields;
-mod finding;
-mod findings;
-mod head;
-mod holders;
-mod idle_entries;
-mod integrity;
-mod judging;
+mod deciders;
 pub mod laws;
-mod lines;
-mod log_records;
-mod making;
-mod message_lines;
-mod message_records;
-mod message_slots;
-mod messages;
-mod node_order;
-mod order;
-mod places;
-mod presence;
-mod record;
-mod sign_lines;
-mod sign_records;
-mod signs;
 pub mod status;
 mod text;
 mod threads;
-mod told;
 mod top;
-mod unused_asks;
-mod unused_entry;
-mod unused_faults;
-mod unused_lines;
-mod unused_restarts;
-mod unused_sends;
-mod views;
-mod witness_lines;
+mod unused_entries;
 
 pub use account::Account;
-pub use accuracy::accusations;
-pub use findings::{
+pub use account::making::account_of;
+pub use account::record::{FirstAndLast, LogRecord, MessageRecord, SignRecord};
+pub use deciders::accuracy::accusations;
+pub use deciders::findings::{
     Accusation, Delivery, EntryAt, Fate, Judgement, Part, Parting, Told, ViewParting, Views,
 };
-pub use idle_entries::unused;
-pub use integrity::wrong_entry;
-pub use judging::{Findings, judge};
-pub use making::account_of;
-pub use messages::message_fates;
-pub use order::parting;
-pub use record::{FirstAndLast, LogRecord, MessageRecord, SignRecord};
-pub use signs::sign_fates;
+pub use deciders::integrity::wrong_entry;
+pub use deciders::judging::{Findings, judge};
+pub use deciders::messages::message_fates;
+pub use deciders::order::parting;
+pub use deciders::signs::sign_fates;
+pub use deciders::views::view_partings;
 pub use text::write_check;
 pub use top::check_top;
-pub use unused_entry::{NoAsk, NoFault, Unused, UnusedEntry};
-pub use views::view_partings;
+pub use unused_entries::idle_entries::unused;
+pub use unused_entries::unused_entry::{NoAsk, NoFault, Unused, UnusedEntry};

@@ -1,17 +1,26 @@
 //! The text of a verdict.
 ghost use Rattle.std.specs.List.{concat};
-ghost use Rattle.cany_check.specs.CheckText.{verdict_text};
-ghost use Rattle.cany_check.specs.Findings.{AreFindings};
-ghost use Rattle.cany_check.specs.TextParts as parts;
+ghost use Rattle.cany_check.specs.Texts.CheckText.{verdict_text};
+ghost use Rattle.cany_check.specs.Deciding.Findings.{AreFindings};
+ghost use Rattle.cany_check.specs.Texts.TextParts as parts;
 ghost use Rattle.cany_log.specs.Written.{IsWritten};
 
+pub(crate) mod counts;
+pub(crate) mod fate_fields;
+pub(crate) mod head;
+pub(crate) mod lines;
+pub(crate) mod message_lines;
+pub(crate) mod sign_lines;
+pub(crate) mod unused_lines;
+pub(crate) mod witness_lines;
+
 use crate::account::Account;
-use crate::head::write_head;
-use crate::judging::Findings;
-use crate::lines::write_lines;
-use crate::message_lines::write_messages;
-use crate::sign_lines::write_signs;
-use crate::unused_entry::Unused;
+use crate::deciders::judging::Findings;
+use crate::text::head::write_head;
+use crate::text::lines::write_lines;
+use crate::text::message_lines::write_messages;
+use crate::text::sign_lines::write_signs;
+use crate::unused_entries::unused_entry::Unused;
 use cany_io::{Failed, Sink};
 use cany_log::write_short_line;
 use cany_model::Break;

@@ -1,9 +1,9 @@
 //! Accounts, and what is found of them, may move to another thread and be shared by threads.
 
 use crate::account::Account;
-use crate::findings::{Accusation, Parting, Told, ViewParting};
-use crate::record::{LogRecord, MessageRecord, SignRecord};
-use crate::unused_entry::Unused;
+use crate::account::record::{LogRecord, MessageRecord, SignRecord};
+use crate::deciders::findings::{Accusation, Parting, Told, ViewParting};
+use crate::unused_entries::unused_entry::Unused;
 
 fn is_thread_safe<T: Send + Sync>() {}
 

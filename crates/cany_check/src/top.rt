@@ -4,10 +4,10 @@ ghost use Rattle.cany_command.specs.Performed.{IsPerformed};
 ghost use Rattle.cany_text.specs.ScenarioText.{scenario_of};
 ghost use Rattle.cany_check.specs.Top.{IsCheck, IsVerdict, check_command};
 
-use crate::idle_entries::unused;
-use crate::judging::judge;
-use crate::making::account_of;
+use crate::account::making::account_of;
+use crate::deciders::judging::judge;
 use crate::text::write_check;
+use crate::unused_entries::idle_entries::unused;
 use cany_base::Scenario;
 use cany_command::{AnswerFault, Command, CommandFault, NoRefusal, is_only, perform};
 use cany_io::{Sink, Source};
@@ -25,7 +25,7 @@ impl Command for Check {
     ghost use Rattle.std.specs.Prelude.{None, codes};
     ghost use Rattle.cany_command.specs.Performed.{AreOnly};
     ghost use Rattle.cany_command.specs.Refused.{as_read};
-    ghost use Rattle.cany_check.specs.CheckText.{check_text};
+    ghost use Rattle.cany_check.specs.Texts.CheckText.{check_text};
     ghost use Rattle.cany_check.specs.NoFault.{verdict_is_no_fault};
     ghost use Rattle.cany_check.specs.Top.{IsVerdict, check_status};
 

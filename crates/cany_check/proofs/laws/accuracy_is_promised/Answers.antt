@@ -1,4 +1,4 @@
-use Rattle.cany_check.proofs.Accused.{nobody_accused}
+use Rattle.cany_check.proofs.Deciding.Accused.{nobody_accused}
 use Rattle.cany_check.proofs.laws.accuracy_is_promised.Goals as goal
 
 pub returns : goal.returns

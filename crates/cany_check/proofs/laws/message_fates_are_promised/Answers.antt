@@ -3,7 +3,7 @@ use Rattle.std.specs.Prelude.{nat_le}
 use Rattle.cany_base.proofs.ParamsFacts.{few_nodes}
 use Rattle.cany_model.specs.Bus.State.{slots_run}
 use Rattle.cany_model.specs.Runs.Run.{all_read, run}
-use Rattle.cany_check.proofs.FatesOfRun.{apart_where, open_where}
+use Rattle.cany_check.proofs.Deciding.FatesOfRun.{apart_where, open_where}
 use Rattle.cany_check.proofs.laws.message_fates_are_promised.Goals as goal
 
 pub returns-clause-open : goal.returns-clause-open

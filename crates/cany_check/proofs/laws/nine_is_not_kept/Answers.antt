@@ -3,7 +3,7 @@ use Rattle.std.proofs.lemmas.Bool.{and_parts}
 use Rattle.cany_base.proofs.ParamsFacts.{few_nodes}
 use Rattle.cany_model.specs.Bus.State.{slots_run}
 use Rattle.cany_model.specs.Runs.Run.{all_read, run}
-use Rattle.cany_check.proofs.StatusOfRun.{nine_where}
+use Rattle.cany_check.proofs.Deciding.StatusOfRun.{nine_where}
 use Rattle.cany_check.proofs.laws.nine_is_not_kept.Goals as goal
 
 pub returns : goal.returns

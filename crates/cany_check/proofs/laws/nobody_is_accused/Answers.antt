@@ -1,4 +1,4 @@
-use Rattle.cany_check.proofs.Accused.{runs_unaccused}
+use Rattle.cany_check.proofs.Deciding.Accused.{runs_unaccused}
 use Rattle.cany_check.proofs.laws.nobody_is_accused.Goals as goal
 
 pub returns : goal.returns

@@ -3,7 +3,7 @@ use Rattle.std.specs.Prelude.{nat_le}
 use Rattle.cany_base.proofs.ParamsFacts.{few_nodes}
 use Rattle.cany_model.specs.Bus.State.{slots_run}
 use Rattle.cany_model.specs.Runs.Run.{all_read, run}
-use Rattle.cany_check.proofs.FatesOfRun.{sign_apart_where, unlisted_agreed}
+use Rattle.cany_check.proofs.Deciding.FatesOfRun.{sign_apart_where, unlisted_agreed}
 use Rattle.cany_check.proofs.laws.sign_fates_are_promised.Goals as goal
 
 pub returns-clause-apart : goal.returns-clause-apart

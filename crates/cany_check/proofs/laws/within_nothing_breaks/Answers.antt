@@ -4,8 +4,8 @@ use Rattle.cany_base.proofs.ParamsFacts.{few_nodes}
 use Rattle.cany_model.specs.Bus.State.{slots_run}
 use Rattle.cany_model.specs.Runs.Run.{all_read, run}
 use Rattle.cany_model.proofs.Timed.Safety.{safe}
-use Rattle.cany_check.proofs.Accused.{runs_unaccused}
-use Rattle.cany_check.proofs.Within.{none_breaks, safe_keeps}
+use Rattle.cany_check.proofs.Deciding.Accused.{runs_unaccused}
+use Rattle.cany_check.proofs.Deciding.Within.{none_breaks, safe_keeps}
 use Rattle.cany_check.proofs.laws.within_nothing_breaks.Goals as goal
 
 pub returns : goal.returns

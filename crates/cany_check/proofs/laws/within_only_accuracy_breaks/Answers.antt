@@ -4,7 +4,7 @@ use Rattle.cany_base.proofs.ParamsFacts.{few_nodes}
 use Rattle.cany_model.specs.Bus.State.{slots_run}
 use Rattle.cany_model.specs.Runs.Run.{all_read, run}
 use Rattle.cany_model.proofs.Timed.Safety.{safe}
-use Rattle.cany_check.proofs.Within.{only_accuracy, safe_keeps}
+use Rattle.cany_check.proofs.Deciding.Within.{only_accuracy, safe_keeps}
 use Rattle.cany_check.proofs.laws.within_only_accuracy_breaks.Goals as goal
 
 pub returns : goal.returns

@@ -1,6 +1,6 @@
 use Rattle.std.proofs.lemmas.Result.{err_from_is_err_and}
 use Rattle.cany_log.proofs.WrittenFacts.{IsWritten-then, IsWritten-short}
-use Rattle.cany_check.proofs.TextFacts.{text-is}
+use Rattle.cany_check.proofs.Texts.TextFacts.{text-is}
 use Rattle.cany_check.proofs.text.write_check.Goals as goal
 
 pub returns-in_err-write_head : goal.returns-in_err-write_head

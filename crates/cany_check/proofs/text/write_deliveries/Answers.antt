@@ -1,10 +1,10 @@
 use Rattle.std.proofs.Common.{refl, ◌∙◌}
 use Rattle.std.specs.Prelude.{option_to_list}
 use Rattle.std.proofs.lemmas.Result.{err_from_is_err_and}
-use Rattle.cany_check.specs.Integrity.{wrong_entry}
-use Rattle.cany_check.specs.OneOrder.{parting}
+use Rattle.cany_check.specs.Deciding.Integrity.{wrong_entry}
+use Rattle.cany_check.specs.Deciding.OneOrder.{parting}
 use Rattle.cany_log.proofs.WrittenFacts.{IsWritten-then, IsWritten-short}
-use Rattle.cany_check.proofs.TextFacts.{delivery-is, listed}
+use Rattle.cany_check.proofs.Texts.TextFacts.{delivery-is, listed}
 use Rattle.cany_check.proofs.text.write_deliveries.Goals as goal
 
 pub returns-in_err-write_lines : goal.returns-in_err-write_lines

@@ -1,6 +1,6 @@
 use Rattle.std.proofs.lemmas.Result.{err_from_is_err_and}
 use Rattle.cany_log.proofs.WrittenFacts.{IsWritten-then, IsWritten-short}
-use Rattle.cany_check.proofs.TextFacts.{ending-is}
+use Rattle.cany_check.proofs.Texts.TextFacts.{ending-is}
 use Rattle.cany_check.proofs.text.write_ending.Goals as goal
 
 pub returns-in_err-write_lines : goal.returns-in_err-write_lines

@@ -1,8 +1,8 @@
 use Rattle.std.proofs.Common.{refl, ◌∙◌}
-use Rattle.cany_check.specs.Accuracy.{accusations}
+use Rattle.cany_check.specs.Deciding.Accuracy.{accusations}
 use Rattle.std.proofs.lemmas.Result.{err_from_is_err_and}
 use Rattle.cany_log.proofs.WrittenFacts.{IsWritten-then, IsWritten-short}
-use Rattle.cany_check.proofs.TextFacts.{membership-is}
+use Rattle.cany_check.proofs.Texts.TextFacts.{membership-is}
 use Rattle.cany_check.proofs.text.write_membership.Goals as goal
 
 pub returns-in_err-write_lines : goal.returns-in_err-write_lines

@@ -1,0 +1,24 @@
+-- Proofs of what is decided of an account, and what that says of a run.
+pub mod AccuracyFacts
+pub mod Accused
+pub mod Clashes
+pub mod CorrectLogs
+pub mod Decided
+pub mod FateFacts
+pub mod FatesOfRun
+pub mod HolderFacts
+pub mod IntegrityOfRun
+pub mod ItemFacts
+pub mod JudgedFacts
+pub mod MarkFacts
+pub mod MeetingFacts
+pub mod MessageFateFacts
+pub mod NodeOrderFacts
+pub mod OrderOfRun
+pub mod PartingFacts
+pub mod ReferenceFacts
+pub mod SignFacts
+pub mod StatusOfRun
+pub mod ViewRowFacts
+pub mod ViewsOfRun
+pub mod Within

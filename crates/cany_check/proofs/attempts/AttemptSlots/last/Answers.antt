@@ -1,8 +1,0 @@
-use Rattle.std.proofs.Common.{ap, ◌∙◌}
-use Rattle.cany_check.specs.Unused.{attempt_slot}
-use Rattle.cany_check.proofs.attempts.AttemptSlots.last.Goals as goal
-
-pub returns : goal.returns
-returns c =
-    λ named trace x are h e.
-    c.slot.ensures named trace x are h e ∙ ap (λ n. attempt_slot x n trace) (c.count.ensures named trace x are h e)

@@ -1,8 +1,0 @@
-use Rattle.std.proofs.Common.{◌||◌, Bool, take}
-use Rattle.cany_model.specs.Bus.Frames.{Identity}
-use Rattle.cany_check.specs.Attempts.{AreZero, is_ruled}
-use Rattle.cany_check.proofs.attempts.enter_rules.Given as goal
-
-abbrev pub invariant-loop-i : goal.invariant-loop-i
-invariant-loop-i l =
-    (named : Identity → Bool) → AreZero named l.fn.counts.entries → AreZero (λ x. named x || is_ruled (take l.i l.rules) x) l.counts.entries

@@ -1,8 +1,0 @@
-use Rattle.std.proofs.Common.{◌≡◌, filter, map, take}
-use Rattle.cany_check.specs.AccountFields.{log_parts}
-use Rattle.cany_check.specs.Holders.{counts_since}
-use Rattle.cany_check.specs.Words.{nodes_of}
-use Rattle.cany_check.proofs.holders.counting.Given as goal
-
-abbrev pub invariant-loop-i : goal.invariant-loop-i
-invariant-loop-i l = l.nodes ≡ nodes_of (filter (counts_since l.since) (map log_parts (take l.i l.logs)))
