@@ -27,9 +27,9 @@ usage: canely replay < SCENARIO > REPORT
 replay reads a scenario, runs it by its own journal or, where it has none, by the round robin
 journal, and writes the report of the run.
 
-check runs a scenario as replay does, and writes what became of the promise in this run: of each part
-whether it held, with a witness where it did not; who has each message and each failure sign; and
-which entries of the scenario did nothing.
+check runs a scenario as replay does, and writes what became of the promise in this run. It tells
+whether each part held, with a witness if it did not. It tells which nodes have each message and
+each failure sign, and which entries of the scenario did nothing.
 
 run reads a scenario that has no journal, runs it by a thread for each node and one for the bus,
 and writes the report of the run, with the journal that the threads made.
@@ -37,20 +37,20 @@ and writes the report of the run, with the journal that the threads made.
 storm generates a scenario from the number, which has 1 to 10 digits and is at most {},
 runs it by the round robin journal, and writes the summary of the run.
 
-replica runs a scenario as replay does, and writes the table of each node: a payload of a tot message
-is 01 KEY VALUE, 02 KEY or 03 KEY BYTE BYTE, by which a key gets a value, loses it, or gets the second
-byte where it has exactly the first.
+replica runs a scenario as replay does, and writes the table of each node. A payload of a tot
+message is 01 KEY VALUE, 02 KEY or 03 KEY BYTE BYTE. By it a key gets a value, loses it, or gets the
+second byte if it has exactly the first.
 
 media runs a scenario as replay does, but over two lines, 0 and 1. A FAULT is LINE:FROM-TO:down or
-LINE:FROM-TO:split:NODE,.. by which a line is down, or cut into these nodes and the others, from one
-slot to another; in a slot in which neither line is whole the frame is lost. It writes a line for each
+LINE:FROM-TO:split:NODE,.. By it a line is down, or cut into these nodes and the others, from one
+slot to another. If neither line is whole in a slot, the frame is lost. It writes a line for each
 FAULT, and then the report of the run.
 
-tail runs a scenario as replay does, and tells whether the run went on long enough after its last
-event (a send, a fault, a stop, a frame of a message) that every message has to be settled.
+tail runs a scenario as replay does, and tells whether the run was long enough that every message
+has to be settled. It counts from the last event: a send, a fault, a stop, a frame of a message.
 
-watch runs a scenario as replay does, while a second thread reads the log of the node, whose number
-has 1 or 2 digits, and writes that log: the logs of the node's incarnations, one after the other.
+watch runs a scenario as replay does, while a second thread reads the log of the node. It writes
+that log: the logs of the node's incarnations, one after the other. NODE has 1 or 2 digits.
 
 A scenario is a TOML document; slots, nodes and entries are counted from 0:
   format, nodes, slots       required; format 1 has up to 32 nodes, format 2 up to 64
