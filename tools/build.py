@@ -115,7 +115,7 @@ def build():
     began = time.time()
     copy_tree(place)
     write_version(place)
-    command.write([f"build.py: proving in {place}; from nothing this takes about 20 minutes on four idle processors"])
+    command.write([f"build.py: proving in {place}; from nothing this takes some 50 minutes of processor time"])
     status = prove(place)
     program = place / "crates/canely/out/canely"
     if status != 0 or not program.is_file():
