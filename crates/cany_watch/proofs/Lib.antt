@@ -4,6 +4,7 @@ pub mod GrowthFacts
 pub mod LineFacts
 pub mod Prefixes
 pub mod PublishFacts
+pub mod RoundLines
 pub mod Rows
 pub mod Showing
 pub mod TopFacts

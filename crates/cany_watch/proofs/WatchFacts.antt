@@ -1,6 +1,6 @@
 -- A run whose steps a hall makes, and what is read of a line.
-use Rattle.std.proofs.Common.{◌≡◌, ℕ, ◌+◌, ◌-◌, ◌<◌, true, List, [], ◌∷◌, ◌++◌, length, map, take, drop, get_or, Some, refl, ap, sym, subst, ◌∙◌, arith}
-use Rattle.std.specs.Prelude.{if◌then◌else◌, slice_get, slice_index_or}
+use Rattle.std.proofs.Common.{◌≡◌, ℕ, ◌+◌, ◌-◌, ◌<◌, true, List, [], ◌∷◌, ◌++◌, length, map, take, drop, get_or, false, Option, Some, None, is_some, refl, ap, sym, subst, ◌∙◌, arith}
+use Rattle.std.specs.Prelude.{if◌then◌else◌, option_map, slice_get, slice_index_or, unwrap_or}
 use Rattle.std.proofs.lemmas.List.{drop_more, take_more, take-append-drop, take-map}
 use Rattle.std.proofs.lemmas.Option.{slice_get_read}
 use mathlib.Core.List.{IsPrefix}
@@ -9,8 +9,11 @@ use Rattle.cany_base.specs.declared.actions.Action.{Action}
 use Rattle.cany_base.specs.declared.actions.Action.TheVariants.{Enter}
 use Rattle.cany_base.specs.declared.log_entry.LogEntry.{LogEntry}
 use Rattle.cany_base.specs.declared.step.Step.{Step}
+use Rattle.cany_base.specs.Scenario.{ScenarioParts}
 use Rattle.cany_model.specs.declared.reply.StepReply.{StepReply}
 use Rattle.cany_model.specs.Bus.State.{opening}
+use Rattle.cany_model.specs.Runs.Follow.{journal_of}
+use Rattle.cany_model.specs.Runs.RoundRobin.{round_robin}
 use Rattle.cany_model.specs.Runs.Run.{IsLegal, is_done, is_legal_from, reply, run}
 use Rattle.cany_model.proofs.Runs.Journals.{legal_next}
 use Rattle.cany_world.specs.World.{WorldParts, state_of}
@@ -57,3 +60,9 @@ book_of readings publishers i node reading at within is told =
     let same : Some reading ≡ Some (note_of (publisher_at publishers node)) = sym read ∙ ap (λ (k : ℕ). slice_get readings k) at ∙ told in
     let e : reading ≡ note_of (publisher_at publishers node) = cc in
     ap (λ (n : NoteParts). n.book) e
+
+-- a scenario without a journal of its own runs by round robin
+pub none_given : {T : Type 0} (scenario : ScenarioParts) (steps : List Step) (given : Option T) (seen : T → List Step) → is_some given ≡ false
+    → option_map seen given ≡ scenario.journal → steps ≡ journal_of scenario → steps ≡ round_robin scenario
+none_given scenario steps None seen none has is = is ∙ ap (λ o. unwrap_or o (round_robin scenario)) (sym has)
+none_given scenario steps (Some x) seen none has is = absurd (cc none)

@@ -1,7 +1,9 @@
 //! The writer's side: a world, and what is published of it.
-ghost use Rattle.std.specs.Prelude.{◌≡◌, ◌<◌, ℕ, [], ◌∷◌, ◌++◌, vec_len, slice_get, Some, IfOk, true, if◌then◌else◌};
+ghost use Rattle.std.specs.Prelude.{◌≡◌, ◌+◌, ◌-◌, ◌<◌, ◌≤◌, ℕ, [], ◌∷◌, ◌++◌, vec_len, slice_get, Some, IfOk, true, if◌then◌else◌};
 ghost use mathlib.Core.List.{IsPrefix};
-ghost use Rattle.cany_model.specs.Runs.Run.{after_step, is_done, reply};
+ghost use Rattle.cany_model.specs.Bus.State.{slots_run};
+ghost use Rattle.cany_model.specs.Runs.RoundRobin.{rounds};
+ghost use Rattle.cany_model.specs.Runs.Run.{IsLegal, after_step, is_done, reply};
 ghost use Rattle.cany_world.specs.World.{state_of};
 ghost use Rattle.cany_watch.specs.declared.hall.Shown.TheVariants as shown;
 ghost use Rattle.cany_watch.specs.Halls.{HallParts, published_of, publisher_at};
@@ -15,7 +17,7 @@ use crate::publishing::{end_all, publish_grown, publishers_of};
 use crate::reading::Reading;
 use cany_base::{Memory, NodeId, Scenario, Step};
 use cany_model::StepReply;
-use cany_world::World;
+use cany_world::{World, advance};
 use std::alloc::Global;
 use std::marker::Model;
 use std::sync::Wait;
@@ -46,7 +48,7 @@ impl Shown {
 pub struct Hall {
     world: World,
     publishers: Vec<Publisher>,
-    /// Whether the line of each node is known to be published whole, as after a step that answers
+    /// Whether the line of each node is known to be published whole, as after a call that answers
     /// `All`. It is no part of what the value stands for.
     is_all: bool,
 }
@@ -109,7 +111,7 @@ impl Hall {
     ///
     /// Promise: the world of the hall.
     ///
-    /// Shown by: nothing in the program runs it, and no edit changes it.
+    /// Shown by: `watch_one_node`, `watch_two_incarnations`.
     pub fn world(&self) -> &World
         ensures { result.now ≡ self.now.world }
     {
@@ -117,7 +119,7 @@ impl Hall {
     }
 
     /// Makes the step, as `World::step` does, and publishes what it made longer: only a turn makes
-    /// a line longer, and only that of its node. After a step that answered `Memory`, and at the
+    /// a line longer, and only that of its node. After a call that answered `Memory`, and at the
     /// first step, it publishes the line of every node. It may wait for readers.
     ///
     /// Promise: reply and world are those of `World::step`. What is published of a node is a
@@ -127,7 +129,7 @@ impl Hall {
     /// whole. No clause says when `Memory` comes.
     ///
     /// Shown by: `a_read_after_learning_is_the_line`, `reads_are_made_beside_steps`,
-    /// `watch_one_node`, `a_failed_publishing_is_all`, `publishes_the_log_of_the_first_node`.
+    /// `a_failed_publishing_is_all`, `publishes_the_log_of_the_first_node`.
     pub fn step<R: Wait>(&mut self, rt: &R, step: Step) -> (StepReply, Shown)
         // The step is that of the world.
         ensures reply { result.0 ≡ reply self.old.world.scenario (state_of self.old.world) step }
@@ -135,7 +137,7 @@ impl Hall {
         ensures run { result.0 ≡ StepReply.Done → state_of self.new.world ≡ after_step self.old.world.scenario (state_of self.old.world) step }
 
         // What is published of a node is a beginning of its line, never shorter than before. With
-        // `All` it is the line of each node, also of one whose line an earlier step could not
+        // `All` it is the line of each node, also of one whose line an earlier call could not
         // publish. Lines only grow.
         ensures lines { (i : ℕ) → i < nodes_of self.old.world → IsPrefix (line_of self.old.world i) (line_of self.new.world i) }
         ensures grows { (i : ℕ) → IsPrefix (published_of self.old i) (published_of self.new i) }
@@ -147,6 +149,41 @@ impl Hall {
         let is_all = publish_grown(rt, &self.world, grown, self.is_all, &mut self.publishers);
         self.is_all = is_all;
         (reply, Shown::of(is_all))
+    }
+
+    /// Makes some of the rounds that are left by the world's `advance`, idle slots in bulk. Then it
+    /// publishes the line of every node. It may wait for readers.
+    ///
+    /// Promise: the world is that of `advance`. What is published of a node is a beginning of its
+    /// line, and begins with all that was published before.
+    ///
+    /// Answers: how many rounds are left, fewer than before; and `All` only where the line of each
+    /// node is published whole. No clause says when `Memory` comes.
+    ///
+    /// Shown by: `watch_one_node`, `watch_two_incarnations`, `a_failed_publishing_is_all`,
+    /// `publishes_the_log_of_the_first_node`.
+    pub fn advance<R: Wait>(&mut self, rt: &R, left: u64) -> (u64, Shown)
+        requires some { 0 < left }
+        requires room { slots_run (state_of self.old.world) + left ≤ self.old.world.scenario.params.slots }
+        requires legal { IsLegal self.old.world.scenario (self.old.world.journal ++ rounds self.old.world.scenario left (state_of self.old.world)) }
+        // The rounds are those of the world.
+        ensures fewer { result.0 < left }
+        ensures new { self.new.world ≡ record self.old.world { journal = self.old.world.journal ++ rounds self.old.world.scenario (left - result.0) (state_of self.old.world) } }
+        ensures ran { slots_run (state_of self.new.world) + result.0 ≡ slots_run (state_of self.old.world) + left }
+
+        // What is published of a node is a beginning of its line, never shorter than before. With
+        // `All` it is the line of each node. Lines only grow.
+        ensures lines { (i : ℕ) → i < nodes_of self.old.world → IsPrefix (line_of self.old.world i) (line_of self.new.world i) }
+        ensures grows { (i : ℕ) → IsPrefix (published_of self.old i) (published_of self.new i) }
+        ensures begins { (i : ℕ) → i < nodes_of self.old.world → IsPrefix (published_of self.new i) (line_of self.new.world i) }
+        ensures all { result.1 ≡ shown.All → (i : ℕ) → i < nodes_of self.old.world → published_of self.new i ≡ line_of self.new.world i }
+        ensures books { (i : ℕ) → (publisher_at self.new.publishers i).book ≡ (publisher_at self.old.publishers i).book }
+    {
+        let fewer = advance(&mut self.world, left);
+        // Rounds make any number of lines longer, so none is taken to be published whole.
+        let is_all = publish_grown(rt, &self.world, None, false, &mut self.publishers);
+        self.is_all = is_all;
+        (fewer, Shown::of(is_all))
     }
 
     /// A note of the list that is published for a node. It takes no memory.

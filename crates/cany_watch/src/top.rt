@@ -5,6 +5,7 @@ ghost use Rattle.cany_command.specs.Performed.{IsPerformed};
 ghost use Rattle.cany_command.specs.Refused.{chosen_refusal, own_fault, refusal_by};
 ghost use Rattle.cany_io.specs.Faults.{HasRisen};
 ghost use Rattle.cany_io.specs.Sink.{Takes, TakesPrefix};
+ghost use Rattle.cany_model.specs.Runs.Follow.{journal_of};
 ghost use Rattle.cany_text.specs.RefusalLines.{journal_refusal_line};
 ghost use Rattle.cany_watch.specs.Lines.{nodes_of};
 ghost use Rattle.cany_watch.specs.Top as watch;
@@ -66,7 +67,8 @@ fn watch_world<R: Threads + Wait + Sync, K: Sink>(
     world: &World,
     sink: &mut K,
 ) -> Result<(), u8>
-    requires { node < nodes_of world.now }
+    requires node { node < nodes_of world.now }
+    requires run { world.now.journal ≡ journal_of world.now.scenario }
     ensures written { OnOk result ((words : List (List ℕ)) → watched_node words ≡ Some node
         → Takes (K.taken sink.old) (watch.text words world.now.scenario world.now.journal) (K.taken sink.new)) }
     ensures write_fault { IfErr result (λ status. status ≡ WRITE_FAULT → HasRisen (K.faults sink.old) (K.faults sink.new)) }

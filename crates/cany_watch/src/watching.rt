@@ -1,6 +1,8 @@
 //! A run with a reader beside it.
 ghost use Rattle.std.specs.Prelude.{◌≡◌, ◌<◌, ◌≤◌, ℕ, [], IfOk, length, map};
 ghost use Rattle.cany_base.specs.declared.actions.Action.TheVariants.{Enter};
+ghost use Rattle.cany_model.specs.Runs.Follow.{journal_of};
+ghost use Rattle.cany_model.specs.Runs.RoundRobin.{round_robin};
 ghost use Rattle.cany_model.specs.Runs.Run.{IsLegal};
 ghost use Rattle.cany_watch.specs.declared.hall.Shown.TheVariants as shown;
 ghost use Rattle.cany_watch.specs.Halls.{published_of, publisher_at};
@@ -38,6 +40,40 @@ fn run_steps<R: Wait>(rt: &R, steps: &[Step], hall: &mut Hall) -> Shown
     shown
 }
 
+/// Makes the rounds of the round robin journal, those of idle slots in bulk, and answers what the
+/// last ones said of what is published.
+fn run_rounds<R: Wait>(rt: &R, hall: &mut Hall) -> Shown
+    requires { hall.old.world.journal ≡ [] }
+    ensures world { hall.new.world ≡ record hall.old.world { journal = round_robin hall.old.world.scenario } }
+    ensures books { (i : ℕ) → (publisher_at hall.new.publishers i).book ≡ (publisher_at hall.old.publishers i).book }
+    ensures all { result ≡ shown.All → (i : ℕ) → i < nodes_of hall.new.world → published_of hall.new i ≡ line_of hall.new.world i }
+{
+    let mut shown = Shown::Memory;
+    let mut left = hall.world().scenario().params().slots;
+    while left > 0 {
+        let (fewer, last) = hall.advance(rt, left);
+        left = fewer;
+        shown = last;
+    }
+    shown
+}
+
+/// Makes the run of the scenario, whose steps these are: the steps of its own journal, or where it
+/// has none, by rounds.
+fn run_again<R: Wait>(rt: &R, steps: &[Step], hall: &mut Hall) -> Shown
+    requires fresh { hall.old.world.journal ≡ [] }
+    requires legal { IsLegal hall.old.world.scenario steps.now }
+    requires run { steps.now ≡ journal_of hall.old.world.scenario }
+    ensures world { hall.new.world ≡ record hall.old.world { journal = steps.now } }
+    ensures books { (i : ℕ) → (publisher_at hall.new.publishers i).book ≡ (publisher_at hall.old.publishers i).book }
+    ensures all { result ≡ shown.All → (i : ℕ) → i < nodes_of hall.new.world → published_of hall.new i ≡ line_of hall.new.world i }
+{
+    if hall.world().scenario().journal().is_none() {
+        return run_rounds(rt, hall);
+    }
+    run_steps(rt, steps, hall)
+}
+
 /// Reads again and again.
 fn read_often<R: Wait>(rt: &R, out: &mut Actions, reading: &mut Reading)
     ensures { Follows reading.old reading.new }
@@ -69,8 +105,8 @@ fn read_line<R: Wait>(
     Ok(out)
 }
 
-/// Makes the steps, with a second thread that reads beside them, and then reads the line of the
-/// node.
+/// Makes the steps of the run, with a second thread that reads beside them, and then reads the line
+/// of the node.
 fn watch_steps<R: Threads + Wait + Sync>(
     rt: &R,
     alloc: Global,
@@ -82,6 +118,7 @@ fn watch_steps<R: Threads + Wait + Sync>(
 ) -> Result<Actions, Memory>
     requires fresh { hall.old.world.journal ≡ [] }
     requires legal { IsLegal hall.old.world.scenario steps.now }
+    requires run { steps.now ≡ journal_of hall.old.world.scenario }
     requires node { node < nodes_of hall.old.world }
     requires book { reading.old.book ≡ (publisher_at hall.old.publishers node).book }
     ensures { IfOk result (λ out. out.items ≡ map Enter (line_of (record hall.old.world { journal = steps.now }) node)) }
@@ -89,7 +126,7 @@ fn watch_steps<R: Threads + Wait + Sync>(
     let ((), shown) = join_mut(
         rt,
         &mut || read_often(rt, beside, reading),
-        &mut || run_steps(rt, steps, hall),
+        &mut || run_again(rt, steps, hall),
     );
     match shown {
         Shown::All => read_line(rt, alloc, node, hall, reading),
@@ -97,8 +134,8 @@ fn watch_steps<R: Threads + Wait + Sync>(
     }
 }
 
-/// Runs the scenario of a world by its journal again, with a second thread that reads the line of
-/// the node beside the steps, and answers the line, as it was read at the end.
+/// Makes the run of a world again. A second thread reads the line of the node beside it. The answer
+/// is the line, as it was read at the end.
 ///
 /// # Errors
 ///
@@ -109,7 +146,8 @@ pub(crate) fn watched<R: Threads + Wait + Sync>(
     node: NodeId,
     world: &World,
 ) -> Result<Actions, Memory>
-    requires { node < nodes_of world.now }
+    requires node { node < nodes_of world.now }
+    requires run { world.now.journal ≡ journal_of world.now.scenario }
     ensures { IfOk result (λ out. out.items ≡ map Enter (line_of world.now node)) }
 {
     let mut beside = Actions::build(alloc, READ_ROOM)?;

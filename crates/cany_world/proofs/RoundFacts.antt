@@ -1,6 +1,7 @@
 -- The rounds of the round robin journal, as a world makes them.
-use Rattle.std.proofs.Common.{◌≡◌, ℕ, suc, ◌+◌, ◌-◌, ◌≤◌, Bool, true, false, cond, List, [], ◌∷◌, ◌++◌, length, map, refl, sym, ap, ◌∙◌, subst, arith, append_assoc}
+use Rattle.std.proofs.Common.{◌≡◌, ℕ, suc, ◌+◌, ◌-◌, ◌<◌, ◌≤◌, Bool, true, false, cond, List, [], ◌∷◌, ◌++◌, length, map, refl, sym, ap, ◌∙◌, subst, arith, append_assoc}
 use Rattle.std.specs.Prelude.{if◌then◌else◌}
+use Rattle.std.proofs.lemmas.List.{append-nil}
 use Rattle.cany_base.specs.declared.step.Step.{Step}
 use Rattle.cany_base.specs.declared.step.Step.TheVariants.{Slot, Turn}
 use Rattle.cany_base.specs.Scenario.{ScenarioParts}
@@ -170,6 +171,37 @@ after_round before now next left more n so e legal is =
       ran = omega (arith, ran, so.ran, e);
     }
 
+-- the same by what was made: all but those that are left
+abbrev pub all_but : WorldParts → ℕ → ℕ → WorldParts
+all_but before left more = record before { journal = before.journal ++ rounds before.scenario (left - more) (state_of before) }
+
+pub advanced_by : (before now : WorldParts) (left more : ℕ) → more < left → now ≡ all_but before left more → slots_run (state_of now) + more ≡ slots_run (state_of before) + left
+    → IsAdvanced before now left more
+advanced_by before now left more fewer is ran =
+    let back : left - (left - more) ≡ more = omega (arith, fewer) in
+    subst (IsAdvanced before now left) back (after_rested before now left (left - more) (omega arith) is (omega (arith, ran, fewer)))
+
+-- where some were passed
+pub rested_new : (before now : WorldParts) (left made : ℕ) → made ≤ left → now ≡ record before { journal = before.journal ++ rounds before.scenario made (state_of before) }
+    → now ≡ all_but before left (left - made)
+rested_new before now left made within is =
+    let back : made ≡ left - (left - made) = omega (arith, within) in
+    is ∙ ap (λ n. record before { journal = before.journal ++ rounds before.scenario n (state_of before) }) back
+
+-- where none was, and one round was made
+pub round_new : (before mid now : WorldParts) (left made : ℕ) → 0 < left → made ≡ 0 → mid ≡ record before { journal = before.journal ++ rounds before.scenario made (state_of before) }
+    → now ≡ record mid { journal = mid.journal ++ round mid.scenario (state_of mid) } → now ≡ all_but before left (left - 1)
+unfolding rounds
+round_new before mid now left made some none still is =
+    let s : RunState = state_of before in
+    let one : 1 ≡ left - (left - 1) = omega (arith, some) in
+    let same : mid ≡ before =
+    still ∙ ap (λ n. record before { journal = before.journal ++ rounds before.scenario n s }) none
+    ∙ ap (λ (j : List Step). record before { journal = j }) (append-nil before.journal) in
+    is ∙ ap (λ (w : WorldParts). record w { journal = w.journal ++ round w.scenario (state_of w) }) same
+    ∙ ap (λ (j : List Step). record before { journal = before.journal ++ j }) (sym (append-nil (round before.scenario s)))
+    ∙ ap (λ n. record before { journal = before.journal ++ rounds before.scenario n s }) one
+
 -- what is left of the round robin journal
 pub record IsInRounds (before now : WorldParts) (left : ℕ) : Type 0 where
   pub scenario : now.scenario ≡ before.scenario
@@ -193,14 +225,12 @@ rounds_legal before now left so =
 pub rounds_room : (before now : WorldParts) (left : ℕ) → IsInRounds before now left → slots_run (state_of now) + left ≤ now.scenario.params.slots
 rounds_room before now left so = omega (arith, so.ran, ap (λ (s : ScenarioParts). s.params.slots) so.scenario)
 
-pub rounds_step : (before now new : WorldParts) (left more : ℕ) → IsInRounds before now left → new.scenario ≡ now.scenario
-    → new.journal ++ rounds new.scenario more (state_of new) ≡ now.journal ++ rounds now.scenario left (state_of now)
-    → slots_run (state_of new) + more ≡ slots_run (state_of now) + left → IsInRounds before new more
-rounds_step before now new left more so scenario made ran = record {
-  scenario = scenario ∙ so.scenario;
-  steps = ap (λ (s : ScenarioParts). new.journal ++ rounds s more (run s new.journal)) (sym (scenario ∙ so.scenario)) ∙ made
+pub rounds_step : (before now new : WorldParts) (left more : ℕ) → IsInRounds before now left → IsAdvanced now new left more → IsInRounds before new more
+rounds_step before now new left more so made = record {
+  scenario = made.scenario ∙ so.scenario;
+  steps = ap (λ (s : ScenarioParts). new.journal ++ rounds s more (run s new.journal)) (sym (made.scenario ∙ so.scenario)) ∙ made.made
       ∙ ap (λ (s : ScenarioParts). now.journal ++ rounds s left (run s now.journal)) so.scenario ∙ so.steps;
-  ran = ran ∙ so.ran;
+  ran = made.ran ∙ so.ran;
 }
 
 pub rounds_whole : (before now : WorldParts) (left : ℕ) → IsInRounds before now left → left ≡ 0 → now ≡ record { scenario = before.scenario; journal = round_robin before.scenario }

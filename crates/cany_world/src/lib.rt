@@ -25,5 +25,5 @@ mod world;
 pub use cany_model::{Break, FollowFault, Span, StepReply};
 pub use finished::FinishedServices;
 pub use following::follow;
-pub use rounds::round_robin;
+pub use rounds::{advance, round_robin};
 pub use world::World;

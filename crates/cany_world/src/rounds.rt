@@ -1,5 +1,5 @@
 //! The round robin journal.
-ghost use Rattle.std.specs.Prelude.{◌≡◌, ◌+◌, ◌<◌, ◌≤◌, ◌++◌, [], IsTrue};
+ghost use Rattle.std.specs.Prelude.{◌≡◌, ◌+◌, ◌-◌, ◌<◌, ◌≤◌, ◌++◌, [], IsTrue};
 ghost use Rattle.cany_model.specs.Runs.RoundRobin.{round, round_robin, rounds};
 ghost use Rattle.cany_model.specs.Runs.Run.{IsLegal, has_ended};
 ghost use Rattle.cany_model.specs.Bus.State.{slots_run};
@@ -21,15 +21,20 @@ fn make_round(world: &mut World)
     }
 }
 
-/// Makes at least one of the rounds that are left: those of the next idle slots, or where the next
-/// slot is not known to be idle, its round. How many are left.
-fn advance(world: &mut World, left: u64) -> u64
+/// Makes some of the rounds that are left, where a round is the steps of one slot: those of the
+/// next idle slots in bulk, or where the next slot is not known to be idle, its round alone. It
+/// answers how many are left then. `round_robin` calls it until none are left.
+///
+/// Promise: at least one round was made. The journal goes on by the next rounds of the round robin,
+/// as many as are no longer left, and the scenario stays.
+///
+/// Shown by: `one_message_no_fault`, `a_long_journal_repeats`, `a_rule_is_passed_over`.
+pub fn advance(world: &mut World, left: u64) -> u64
     requires some { 0 < left }
     requires room { slots_run (state_of world.old) + left ≤ world.old.scenario.params.slots }
     requires legal { IsLegal world.old.scenario (world.old.journal ++ rounds world.old.scenario left (state_of world.old)) }
     ensures fewer { result < left }
-    ensures scenario { world.new.scenario ≡ world.old.scenario }
-    ensures made { world.new.journal ++ rounds world.new.scenario result (state_of world.new) ≡ world.old.journal ++ rounds world.old.scenario left (state_of world.old) }
+    ensures new { world.new ≡ record world.old { journal = world.old.journal ++ rounds world.old.scenario (left - result) (state_of world.old) } }
     ensures ran { slots_run (state_of world.new) + result ≡ slots_run (state_of world.old) + left }
 {
     let rested = world.rest(left);

@@ -1,9 +1,15 @@
-use Rattle.std.proofs.Common.{inr}
+use Rattle.std.proofs.Common.{◌∙◌, ap, inr, sym}
 use Rattle.std.proofs.lemmas.Result.{IfErr-weaker, on_ok_weaker}
 use Rattle.cany_command.proofs.PerformingFacts.{run_answered, run_answered_in_part}
+use Rattle.cany_model.specs.Runs.Follow.{journal_of}
+use Rattle.cany_world.specs.World.{WorldParts}
 use Rattle.cany_watch.specs.Top.{text}
 use Rattle.cany_watch.proofs.TopFacts.{not_refused}
 use Rattle.cany_watch.proofs.top.watch_run.Goals as goal
+
+pub watch_world-requires-clause-run : goal.watch_world-requires-clause-run
+watch_world-requires-clause-run g c κs within =
+    ap (λ (w : WorldParts). w.journal) c.in-Ok.ensures.ended ∙ ap journal_of (sym (ap (λ (w : WorldParts). w.scenario) c.in-Ok.ensures.ended))
 
 pub returns-in-Ok-clause-done : goal.returns-in-Ok-clause-done
 returns-in-Ok-clause-done g c =

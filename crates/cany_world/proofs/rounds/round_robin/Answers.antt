@@ -1,7 +1,7 @@
 use Rattle.std.proofs.Common.{◌≡◌, ap, ◌∙◌, arith}
 use Rattle.cany_base.specs.Params.{Parameters}
 use Rattle.cany_base.specs.Scenario.{ScenarioParts}
-use Rattle.cany_world.proofs.RoundFacts.{rounds_begin, rounds_end, rounds_legal, rounds_made, rounds_room, rounds_step, rounds_whole}
+use Rattle.cany_world.proofs.RoundFacts.{advanced_by, rounds_begin, rounds_end, rounds_legal, rounds_made, rounds_room, rounds_step, rounds_whole}
 use Rattle.cany_world.proofs.rounds.round_robin.Goals as goal
 
 pub loop-left-init : goal.loop-left-init
@@ -19,7 +19,7 @@ advance-left-requires-clause-legal c = rounds_legal c.args.world.now c.loop-left
 pub loop-left-preserved : goal.loop-left-preserved
 loop-left-preserved c =
     rounds_step c.args.world.now c.loop-left.world c.advance-left.new.world c.loop-left.left c.advance-left.result c.loop-left.invariant
-    c.advance-left.ensures.scenario c.advance-left.ensures.made c.advance-left.ensures.ran
+    (advanced_by c.loop-left.world c.advance-left.new.world c.loop-left.left c.advance-left.result c.advance-left.ensures.fewer c.advance-left.ensures.new c.advance-left.ensures.ran)
 
 pub note_rounds-requires : goal.note_rounds-requires
 note_rounds-requires c =
