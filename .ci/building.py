@@ -76,6 +76,10 @@ class Tree:
 def check_running(tree, tally):
     found = tree.ran("run.py", "check", rt=False)
     tally.check(found == (1, "", f"run.py: {NO_RT}\n"), f"run.py without rt and a program: {found}")
+    for word, shown in (("a.toml", "a.toml"), ("a b", "FILE"), ("\u00e4", "FILE"), ("x" * 41, "FILE")):
+        found = tree.ran("run.py", "check", word, rt=False)
+        wanted = (2, "", f"canely: check reads the scenario from standard input: canely check < {shown}\n")
+        tally.check(found == wanted, f"run.py check {word}, without a program: {found}")
     found = tree.ran("run.py", "watch", "1")
     wanted = (9, "tried watch 1 text\n", "run.py: building the program without a proof, which takes one to four minutes, more on a loaded machine\n")
     tally.check(found == wanted, f"run.py without a program: {found}")
