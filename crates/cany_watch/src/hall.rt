@@ -129,7 +129,8 @@ impl Hall {
     /// whole. No clause says when `Memory` comes.
     ///
     /// Shown by: `a_read_after_learning_is_the_line`, `reads_are_made_beside_steps`,
-    /// `a_failed_publishing_is_all`, `publishes_the_log_of_the_first_node`.
+    /// `watch_by_a_given_journal`, `a_failed_publishing_is_all`,
+    /// `publishes_the_log_of_the_first_node`.
     pub fn step<R: Wait>(&mut self, rt: &R, step: Step) -> (StepReply, Shown)
         // The step is that of the world.
         ensures reply { result.0 ≡ reply self.old.world.scenario (state_of self.old.world) step }
